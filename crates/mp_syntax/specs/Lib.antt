@@ -1,0 +1,6 @@
+pub mod Grammar
+pub mod Literals
+pub mod Spelling
+pub mod Syntax
+pub mod Terminals
+pub mod Tokens

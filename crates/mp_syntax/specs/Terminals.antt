@@ -1,0 +1,52 @@
+-- What a token is to the grammar.
+use Rattle.std.specs.Prelude.{ℕ, List, [], ◌∷◌, Bool, true, if◌then◌else◌, codes}
+use Rattle.std.specs.List.{list_any}
+use Rattle.std.specs.Str.{bytes_eq}
+use Rattle.mp_syntax.specs.declared.token.TokenKind.{TokenKind}
+use Rattle.mp_syntax.specs.declared.token.TokenKind.TheVariants as k
+use Rattle.mp_syntax.specs.declared.terminal.Terminal.{Terminal}
+use Rattle.mp_syntax.specs.declared.terminal.Terminal.TheVariants as t
+use Rattle.mp_syntax.specs.Tokens.{Tok}
+
+-- words that begin a statement or end a block (Dynare manual, "The model file"; the profile is modpath's own)
+abbrev pub statement_words : List (List ℕ)
+statement_words =
+    codes "var" ∷ codes "varexo" ∷ codes "parameters" ∷ codes "model" ∷ codes "end" ∷ codes "initval" ∷ codes "endval" ∷ codes "histval" ∷ codes "shocks" ∷ codes "steady" ∷ codes "steady_state_model" ∷ codes "perfect_foresight_setup" ∷ codes "perfect_foresight_solver" ∷ codes "occbin_constraints" ∷ codes "occbin_setup" ∷ codes "occbin_solver" ∷ codes "check" ∷ codes "resid" ∷ codes "rplot" ∷ codes "model_diagnostics" ∷ []
+
+-- words that stand for a function
+abbrev pub function_words : List (List ℕ)
+function_words =
+    codes "min" ∷ codes "max" ∷ codes "pick" ∷ codes "diff" ∷ codes "STEADY_STATE" ∷ codes "steady_state" ∷ codes "abs" ∷ codes "exp" ∷ codes "log" ∷ codes "ln" ∷ codes "log10" ∷ codes "sqrt" ∷ codes "cbrt" ∷ codes "sign" ∷ []
+
+-- words that stand for a trigonometric, hyperbolic or normal function
+abbrev pub further_function_words : List (List ℕ)
+further_function_words =
+    codes "sin" ∷ codes "cos" ∷ codes "tan" ∷ codes "asin" ∷ codes "acos" ∷ codes "atan" ∷ codes "sinh" ∷ codes "cosh" ∷ codes "tanh" ∷ codes "asinh" ∷ codes "acosh" ∷ codes "atanh" ∷ codes "normcdf" ∷ codes "normpdf" ∷ codes "erf" ∷ codes "erfc" ∷ []
+
+abbrev pub is_one_of : List (List ℕ) → List ℕ → Bool
+is_one_of words bs = list_any (bytes_eq bs) words
+
+-- no name may be one of these
+abbrev pub is_reserved : List ℕ → Bool
+is_reserved bs =
+    if is_one_of statement_words bs then true else if is_one_of function_words bs then true else is_one_of further_function_words bs
+
+-- a word that is a terminal of its own, a reserved word or a name
+abbrev pub word_of : List ℕ → Terminal
+word_of bs =
+    if bytes_eq bs (codes "var") then t.Var else if bytes_eq bs (codes "model") then t.Model else if bytes_eq bs (codes "end") then t.End else if is_reserved bs then t.Reserved else t.Name
+
+abbrev pub terminal_by : TokenKind → List ℕ → Terminal
+terminal_by k.Name bs = word_of bs
+terminal_by k.Whole bs = t.Whole
+terminal_by k.Semicolon bs = t.Semicolon
+terminal_by k.Comma bs = t.Comma
+terminal_by k.Equals bs = t.Equals
+terminal_by k.Open bs = t.Open
+terminal_by k.Close bs = t.Close
+terminal_by k.Plus bs = t.Plus
+terminal_by k.Minus bs = t.Minus
+terminal_by k.Star bs = t.Star
+
+unfoldable pub terminal_of : Tok → Terminal
+terminal_of t = terminal_by t.kind t.bytes
