@@ -1,0 +1,68 @@
+// The lines as they are read by a person.
+use crate::outcomes::line_of;
+use mp_base::{DataKind, GuessFault, Label, LooseKind, NotSolved, Outcome, Ratio, Stage, TextKind};
+use mp_outside::{Calls, MemSink};
+use std::test::Fail;
+
+#[test]
+fn lines_are_those_of_the_format(rt: HostRuntime) -> Result<(), Fail> {
+    let first = Ratio { n: -1, d: 2 };
+    let second = Ratio { n: 16, d: 1 };
+    let stage = Stage::Path;
+    let bound = 1_085_069_444_445;
+    let rows = [
+        (
+            Outcome::Text {
+                kind: TextKind::Token,
+                at: 18,
+                token: Label::of(b"exp"),
+            },
+            b"modpath: 5 Text kind=Token at=18 token=exp\n".as_slice(),
+        ),
+        (
+            Outcome::NotSolved(NotSolved::StepLimit {
+                stage,
+                steps: 2,
+                equation: 1,
+                period: 1,
+                bound,
+            }),
+            b"modpath: 1 StepLimit stage=path steps=2 equation=1 period=1 bound=1.085069444445\n".as_slice(),
+        ),
+        (
+            Outcome::Data {
+                kind: DataKind::Exponent,
+                at: 46,
+                first,
+                second,
+            },
+            b"modpath: 7 Data kind=Exponent at=46 first=-1/2 second=16\n".as_slice(),
+        ),
+        (
+            Outcome::Guess(GuessFault::SignUnknown {
+                period: 1,
+                name: Label::of(b"Z"),
+                low: -1,
+                high: 1,
+            }),
+            b"modpath: 9 SignUnknown period=1 name=Z low=-0.000000000001 high=0.000000000001\n".as_slice(),
+        ),
+        (
+            Outcome::Loose {
+                kind: LooseKind::Bound,
+                equation: 1,
+                period: 1,
+                value: 250_000_000_000,
+            },
+            b"modpath: 10 Loose kind=Bound equation=1 period=1 value=0.250000000000\n".as_slice(),
+        ),
+        (Outcome::Done, b"".as_slice()),
+    ];
+    for (outcome, line) in rows.iter() {
+        assert_eq!(rt; line_of(outcome).as_slice(), *line);
+    }
+    let mut err = MemSink::with_room(rt.alloc(), 512, Calls::new(rt.alloc()))?;
+    crate::tell(&mut err, &Outcome::Words { word: 3 });
+    assert_eq!(rt; err.taken(), b"modpath: 2 Words word=3\n".as_slice());
+    Ok(())
+}
