@@ -1,0 +1,208 @@
+-- Reading from left to right, with one token seen ahead: each function gives a value and the tokens after it, or the tokens from the wrong one on.
+use Rattle.std.specs.Prelude.{ℕ, zero, suc, ◌+◌, List, [], ◌∷◌, length, drop, Bool, true, false, if◌then◌else◌, Option, Some, None, Result, Ok, Err}
+use Rattle.mp_syntax.specs.declared.terminal.Terminal.{Terminal}
+use Rattle.mp_syntax.specs.declared.terminal.Terminal.TheVariants as t
+use Rattle.mp_syntax.specs.declared.terminal.Sign.{Sign}
+use Rattle.mp_syntax.specs.declared.terminal.Sign.TheVariants as sign
+use Rattle.mp_syntax.specs.Tokens.{Tok}
+use Rattle.mp_syntax.specs.Terminals.{terminal_of}
+use Rattle.mp_syntax.specs.Syntax.{Shift, Named, Expr, Number, Variable, Term, Factor, with_terms, with_factors, Item, Statement, Vars, Model}
+use Rattle.mp_syntax.specs.Grammar.{named}
+
+abbrev pub Read : Type 0 → Type 0
+Read X = Result (X × List Tok) (List Tok)
+
+-- reads on where something was read
+abbrev pub go : {A B : Type 0} → (A → Result B (List Tok)) → Result A (List Tok) → Result B (List Tok)
+go next (Ok x) = next x
+go next (Err left) = Err left
+
+infixl 10 ◌>>=◌
+abbrev pub ◌>>=◌ : {A B : Type 0} → Result A (List Tok) → (A → Result B (List Tok)) → Result B (List Tok)
+r >>= next = go next r
+
+-- goes on where something begins, and ends where not
+abbrev pub go_on : {B Y : Type 0} → Option B → Y → (B → Y) → Y
+go_on None done next = done
+go_on (Some b) done next = next b
+
+-- both are the same terminal
+abbrev pub is : Terminal → Terminal → Bool
+is t.Var t.Var = true
+is t.Model t.Model = true
+is t.End t.End = true
+is t.Reserved t.Reserved = true
+is t.Name t.Name = true
+is t.Whole t.Whole = true
+is t.Semicolon t.Semicolon = true
+is t.Comma t.Comma = true
+is t.Equals t.Equals = true
+is t.Open t.Open = true
+is t.Close t.Close = true
+is t.Plus t.Plus = true
+is t.Minus t.Minus = true
+is t.Star t.Star = true
+is _ _ = false
+
+-- the next token is this terminal
+abbrev pub next_is : Terminal → List Tok → Bool
+next_is k [] = false
+next_is k (t ∷ ts) = is k (terminal_of t)
+
+-- a token that is this terminal
+unfoldable pub token_at : Terminal → List Tok → Read Tok
+token_at k [] = Err []
+token_at k (t ∷ ts) = if is k (terminal_of t) then Ok (t, ts) else Err (t ∷ ts)
+
+unfoldable pub digits_at : Sign → List Tok → Read Shift
+digits_at s ts = token_at t.Whole ts >>= λ w. Ok (record { sign = s; digits = w.0.bytes }, w.1)
+
+abbrev pub shift_by : Terminal → Tok → List Tok → Read Shift
+shift_by t.Whole t ts = Ok (record { sign = sign.Plus; digits = t.bytes }, ts)
+shift_by t.Plus t ts = digits_at sign.Plus ts
+shift_by t.Minus t ts = digits_at sign.Minus ts
+shift_by _ t ts = Err (t ∷ ts)
+
+unfoldable pub shift_at : List Tok → Read Shift
+shift_at [] = Err []
+shift_at (t ∷ ts) = shift_by (terminal_of t) t ts
+
+-- the name with the shift that stands after "("
+unfoldable pub shifted_at : Named → List Tok → Read Expr
+shifted_at name ts = do
+  s ← shift_at ts
+  c ← token_at t.Close s.1
+  Ok (Variable name (Some s.0), c.1)
+
+unfoldable pub variable_at : Tok → List Tok → Read Expr
+variable_at n ts = if next_is t.Open ts then shifted_at (named n) (drop 1 ts) else Ok (Variable (named n) None, ts)
+
+abbrev pub atom_by : Terminal → Tok → List Tok → Read Expr
+atom_by t.Whole t ts = Ok (Number t.bytes t.at, ts)
+atom_by t.Name t ts = variable_at t ts
+atom_by _ t ts = Err (t ∷ ts)
+
+unfoldable pub atom_at : List Tok → Read Expr
+atom_at [] = Err []
+atom_at (t ∷ ts) = atom_by (terminal_of t) t ts
+
+-- at most so many, as long as there begins one
+unfoldable pub more_at : {B X : Type 0} → ℕ → (List Tok → Option B) → (B → Read X) → List Tok → Read (List X)
+more_at zero begin step ts = Err ts
+more_at (suc n) begin step ts =
+    go_on (begin ts) (Ok ([], ts)) (λ b. step b >>= λ x. more_at n begin step x.1 >>= λ xs. Ok (x.0 ∷ xs.0, xs.1))
+
+-- as many as there are: each has a token
+abbrev pub all_at : {B X : Type 0} → (List Tok → Option B) → (B → Read X) → List Tok → Read (List X)
+all_at begin step ts = more_at (length ts + 1) begin step ts
+
+abbrev pub star_by : Terminal → Tok → List Tok → Option (ℕ × List Tok)
+star_by t.Star t ts = Some (t.at, ts)
+star_by _ t ts = None
+
+-- the place of a "*", and the tokens after it
+unfoldable pub star_at : List Tok → Option (ℕ × List Tok)
+star_at [] = None
+star_at (t ∷ ts) = star_by (terminal_of t) t ts
+
+-- the atom after a "*" at this place
+unfoldable pub factor_at : ℕ × List Tok → Read Factor
+factor_at b = atom_at b.1 >>= λ a. Ok (record { at = b.0; atom = a.0 }, a.1)
+
+unfoldable pub product_at : List Tok → Read Expr
+product_at ts = do
+  first ← atom_at ts
+  more ← all_at star_at factor_at first.1
+  Ok (with_factors first.0 more.0, more.1)
+
+abbrev pub plus_by : Terminal → Tok → List Tok → Option ((Sign × ℕ) × List Tok)
+plus_by t.Plus t ts = Some ((sign.Plus, t.at), ts)
+plus_by t.Minus t ts = Some ((sign.Minus, t.at), ts)
+plus_by _ t ts = None
+
+-- a "+" or a "-" with its place, and the tokens after it
+unfoldable pub plus_at : List Tok → Option ((Sign × ℕ) × List Tok)
+plus_at [] = None
+plus_at (t ∷ ts) = plus_by (terminal_of t) t ts
+
+-- the product after this operator
+unfoldable pub term_at : (Sign × ℕ) × List Tok → Read Term
+term_at b = product_at b.1 >>= λ p. Ok (record { sign = b.0.0; at = b.0.1; product = p.0 }, p.1)
+
+unfoldable pub sum_at : List Tok → Read Expr
+sum_at ts = do
+  first ← product_at ts
+  more ← all_at plus_at term_at first.1
+  Ok (with_terms first.0 more.0, more.1)
+
+-- the right side of an equation, after "="
+unfoldable pub right_at : Expr → List Tok → Read Item
+right_at left ts = do
+  right ← sum_at ts
+  c ← token_at t.Semicolon right.1
+  Ok (record { left = left; right = Some right.0 }, c.1)
+
+-- the end of an item without "="
+unfoldable pub alone_at : Expr → List Tok → Read Item
+alone_at left ts = token_at t.Semicolon ts >>= λ c. Ok (record { left = left; right = None }, c.1)
+
+unfoldable pub item_at : List Tok → Read Item
+item_at ts =
+    sum_at ts >>= λ left. if next_is t.Equals left.1 then right_at left.0 (drop 1 left.1) else alone_at left.0 left.1
+
+abbrev pub item_by : Terminal → List Tok → Option (List Tok)
+item_by t.End ts = None
+item_by _ ts = Some ts
+
+-- an item, unless the block ends
+unfoldable pub item_begins : List Tok → Option (List Tok)
+item_begins [] = None
+item_begins (t ∷ ts) = item_by (terminal_of t) (t ∷ ts)
+
+unfoldable pub name_at : List Tok → Read Named
+name_at ts = token_at t.Name ts >>= λ n. Ok (named n.0, n.1)
+
+abbrev pub name_by : Terminal → Tok → List Tok → Option (List Tok)
+name_by t.Name t ts = Some (t ∷ ts)
+name_by t.Comma t ts = Some ts
+name_by _ t ts = None
+
+-- a further name, past the comma before it
+unfoldable pub name_begins : List Tok → Option (List Tok)
+name_begins [] = None
+name_begins (t ∷ ts) = name_by (terminal_of t) t ts
+
+-- after "var"
+unfoldable pub vars_at : List Tok → Read Statement
+vars_at ts = do
+  first ← name_at ts
+  more ← all_at name_begins name_at first.1
+  c ← token_at t.Semicolon more.1
+  Ok (Vars (first.0 ∷ more.0), c.1)
+
+-- after "model", which stands at this place
+unfoldable pub model_at : ℕ → List Tok → Read Statement
+model_at at ts = do
+  start ← token_at t.Semicolon ts
+  items ← all_at item_begins item_at start.1
+  last ← token_at t.End items.1
+  c ← token_at t.Semicolon last.1
+  Ok (Model at items.0, c.1)
+
+abbrev pub statement_by : Terminal → Tok → List Tok → Read Statement
+statement_by t.Var t ts = vars_at ts
+statement_by t.Model t ts = model_at t.at ts
+statement_by _ t ts = Err (t ∷ ts)
+
+unfoldable pub statement_at : List Tok → Read Statement
+statement_at [] = Err []
+statement_at (t ∷ ts) = statement_by (terminal_of t) t ts
+
+-- anything at all
+unfoldable pub any_begins : List Tok → Option (List Tok)
+any_begins [] = None
+any_begins (t ∷ ts) = Some (t ∷ ts)
+
+-- a file, or the tokens from the wrong one on
+unfoldable pub file_read : List Tok → Result (List Statement) (List Tok)
+file_read ts = all_at any_begins statement_at ts >>= λ file. Ok file.0
