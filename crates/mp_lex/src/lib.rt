@@ -9,6 +9,7 @@ use mp_base::{NoMemory, Span};
 use mp_syntax::TokenKind;
 use std::alloc::Global;
 
+pub mod terminal;
 pub mod tokens;
 
 pub use tokens::{Token, Tokens};

@@ -1,5 +1,5 @@
 -- What a token is to the grammar.
-use Rattle.std.specs.Prelude.{ℕ, List, [], ◌∷◌, Bool, true, if◌then◌else◌, codes}
+use Rattle.std.specs.Prelude.{ℕ, List, [], ◌∷◌, ◌++◌, Bool, if◌then◌else◌, codes}
 use Rattle.std.specs.List.{list_any}
 use Rattle.std.specs.Str.{bytes_eq}
 use Rattle.mp_syntax.specs.declared.token.TokenKind.{TokenKind}
@@ -26,10 +26,12 @@ further_function_words =
 abbrev pub is_one_of : List (List ℕ) → List ℕ → Bool
 is_one_of words bs = list_any (bytes_eq bs) words
 
--- no name may be one of these
-abbrev pub is_reserved : List ℕ → Bool
-is_reserved bs =
-    if is_one_of statement_words bs then true else if is_one_of function_words bs then true else is_one_of further_function_words bs
+abbrev pub reserved_words : List (List ℕ)
+reserved_words = statement_words ++ function_words ++ further_function_words
+
+-- no name may be one of the reserved words
+unfoldable pub is_reserved : List ℕ → Bool
+is_reserved bs = is_one_of reserved_words bs
 
 -- a word that is a terminal of its own, a reserved word or a name
 abbrev pub word_of : List ℕ → Terminal
