@@ -1,8 +1,8 @@
 -- What the lexer's answers stand for.
 use Rattle.std.specs.Prelude.{◌≡◌, List, Result, Ok, Err}
 use Rattle.mp_syntax.specs.Tokens.{Tok, Fault, BadByte, LongName}
-use Rattle.mp_lex.specs.declared.LexFault.{LexFault}
-use Rattle.mp_lex.specs.declared.LexFault.TheVariants as f
+use Rattle.mp_lex.specs.declared.fault.LexFault.{LexFault}
+use Rattle.mp_lex.specs.declared.fault.LexFault.TheVariants as f
 use Rattle.mp_lex.specs.declared.tokens.Token.{Token}
 use Rattle.mp_lex.specs.Shown.{tok_of}
 

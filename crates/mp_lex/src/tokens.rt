@@ -6,6 +6,7 @@ use mp_syntax::TokenKind;
 use std::alloc::Global;
 use std::marker::Model;
 
+/// A token: its kind, its bytes and where they stand in the text.
 #[derive(Clone, Copy, Debug)]
 pub struct Token<'t> {
     pub kind: TokenKind,
@@ -13,6 +14,7 @@ pub struct Token<'t> {
     pub span: Span,
 }
 
+/// The tokens of a text, in order.
 #[derive(Drop)]
 pub struct Tokens<'t> {
     items: Vec<Token<'t>>,
@@ -31,6 +33,7 @@ impl<'t> Model for Tokens<'t> {
 impl<'t> Tokens<'t> {
     ghost use Rattle.mp_lex.specs.Shown.{tok_of};
 
+    /// No tokens. They grow in this allocator.
     pub fn new(alloc: Global) -> Self
         ensures { result ≡ [] }
     {
@@ -47,6 +50,7 @@ impl<'t> Tokens<'t> {
         self.items.push(token).map_err(|_| NoMemory)
     }
 
+    /// The tokens, lent.
     pub fn as_slice(&self) -> &[Token<'t>]
         ensures { map tok_of result.now ≡ self.now }
     {

@@ -1,6 +1,6 @@
 use Rattle.std.proofs.Common.{◌≡◌, ◌-◌, ◌≤◌, length, drop}
 use Rattle.mp_syntax.specs.Tokens.{before, tokens, tokens_from}
-use Rattle.mp_lex.proofs.lex.Given as goal
+use Rattle.mp_lex.proofs.lexer.lex.Given as goal
 
 abbrev pub invariant-loop-at : goal.invariant-loop-at
 invariant-loop-at l = record {

@@ -4,7 +4,7 @@ use Rattle.mp_syntax.specs.Tokens.{before, tokens_from}
 use Rattle.mp_syntax.proofs.TokenLaws.{told-blank, told-token, told-end}
 use Rattle.mp_lex.proofs.Faults.{told-fails}
 use Rattle.mp_lex.specs.Shown.{tok_of}
-use Rattle.mp_lex.proofs.lex.Goals as goal
+use Rattle.mp_lex.proofs.lexer.lex.Goals as goal
 
 pub loop-at-preserved-then-is_blank : goal.loop-at-preserved-then-is_blank
 loop-at-preserved-then-is_blank c = record {

@@ -2,7 +2,7 @@ use Rattle.std.proofs.Common.{sym, refl, ap, ◌∙◌, arith, get_or, ◌+◌, 
 use Rattle.std.proofs.lemmas.List.{take_all, length-drop}
 use Rattle.mp_syntax.specs.Tokens.{more_of}
 use Rattle.mp_syntax.proofs.TokenLaws.{token_at-makes}
-use Rattle.mp_lex.proofs.token_at.Goals as goal
+use Rattle.mp_lex.proofs.lexer.token_at.Goals as goal
 
 pub returns-clause-value : goal.returns-clause-value
 returns-clause-value c =
