@@ -1,6 +1,7 @@
 // The lexer.
 ghost use Rattle.std.specs.Prelude.{◌≡◌, [], ◌∷◌, ◌++◌, ◌+◌, ◌<◌, ◌≤◌, ◌-◌, ◌^◌, IfOk, length, drop, OnOk, OnErr};
 ghost use Rattle.mp_syntax.specs.Tokens.{is_blank, is_first, is_word, kind_of, goes_on, is_long, more_of, symbol_of, token_at, tokens};
+ghost use Rattle.mp_syntax.specs.Slices.{Stand};
 ghost use Rattle.mp_lex.specs.Seen.{Gives, GivesToken};
 
 use crate::fault::LexFault;
@@ -13,7 +14,8 @@ use std::alloc::Global;
 /// fault. A name has at most 128 bytes. Reserved words are names here. The rules are modpath's own.
 pub fn lex<'t>(alloc: Global, text: &'t [u8]) -> Result<Tokens<'t>, LexFault>
     requires { length text.now < 2 ^ 32 - 1 }
-    ensures { Gives result (tokens text.now) }
+    ensures value { Gives result (tokens text.now) }
+    ensures slices { IfOk result (λ ts. Stand text.now 0 ts) }
 {
     let mut found = Tokens::new(alloc);
     let mut at: usize = 0;

@@ -12,6 +12,7 @@ pub struct Token<'t> {
     pub kind: TokenKind,
     pub text: &'t [u8],
     pub span: Span,
+    ghost whole: { span.len ≡ length text.now },
 }
 
 /// The tokens of a text, in order.

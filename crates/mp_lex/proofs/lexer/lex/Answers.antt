@@ -2,6 +2,7 @@ use Rattle.std.proofs.Common.{◌+◌, arith, sym, refl, ap, ◌∙◌, length, 
 use Rattle.std.proofs.lemmas.Result.{err_from_is_err_and}
 use Rattle.mp_syntax.specs.Tokens.{before, tokens_from}
 use Rattle.mp_syntax.proofs.TokenLaws.{told-blank, told-token, told-end}
+use Rattle.mp_syntax.proofs.SliceLaws.{tokens-stand}
 use Rattle.mp_lex.proofs.Faults.{told-fails}
 use Rattle.mp_lex.specs.Shown.{tok_of}
 use Rattle.mp_lex.proofs.lexer.lex.Goals as goal
@@ -12,8 +13,8 @@ loop-at-preserved-then-is_blank c = record {
   told = told-blank c.args.text.now c.loop-at.found c.loop-at.at _ _ c.loop-at-test.true refl (sym c.is_blank.ensures ∙ c.if-is_blank.true) c.loop-at.invariant.told;
 }
 
-pub returns-in_err-token : goal.returns-in_err-token
-returns-in_err-token c =
+pub returns-in_err-token-clause-value : goal.returns-in_err-token-clause-value
+returns-in_err-token-clause-value c =
     let p = err_from_is_err_and c.from_residual.result c.from_residual.ensures.1 in
     rw (p.1, p.2) (told-fails c.args.text.now c.loop-at.found c.loop-at.at _ _ _ c.loop-at-test.true refl (sym c.is_blank.ensures ∙ c.if-is_blank.false) c.in_err-token.ensures.value c.loop-at.invariant.told)
 
@@ -27,5 +28,9 @@ loop-at-preserved c =
       told = ap (λ l. before l (tokens_from (drop (c.loop-at.at + length t.bytes) text) (c.loop-at.at + length t.bytes) 0)) c.in_ok-add.ensures.ok ∙ told;
     }
 
-pub returns : goal.returns
-returns c = told-end c.args.text.now c.loop-at.found c.loop-at.at _ c.loop-at-test.false c.loop-at.invariant.told
+pub returns-clause-value : goal.returns-clause-value
+returns-clause-value c = told-end c.args.text.now c.loop-at.found c.loop-at.at _ c.loop-at-test.false c.loop-at.invariant.told
+
+pub returns-clause-slices : goal.returns-clause-slices
+returns-clause-slices c =
+    tokens-stand c.args.text.now c.loop-at.found (told-end c.args.text.now c.loop-at.found c.loop-at.at _ c.loop-at-test.false c.loop-at.invariant.told)
