@@ -16,6 +16,7 @@ pub fn lex<'t>(alloc: Global, text: &'t [u8]) -> Result<Tokens<'t>, LexFault>
     requires { length text.now < 2 ^ 32 - 1 }
     ensures value { Gives result (tokens text.now) }
     ensures slices { IfOk result (λ ts. Stand text.now 0 ts) }
+    ensures few { IfOk result (λ ts. length ts ≤ length text.now) }
 {
     let mut found = Tokens::new(alloc);
     let mut at: usize = 0;

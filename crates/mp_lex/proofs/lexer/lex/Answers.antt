@@ -1,4 +1,4 @@
-use Rattle.std.proofs.Common.{◌+◌, arith, sym, refl, ap, ◌∙◌, length, drop}
+use Rattle.std.proofs.Common.{◌+◌, arith, sym, refl, ap, ◌∙◌, length, length-append, [], ◌∷◌, drop}
 use Rattle.std.proofs.lemmas.Result.{err_from_is_err_and}
 use Rattle.mp_syntax.specs.Tokens.{before, tokens_from}
 use Rattle.mp_syntax.proofs.TokenLaws.{told-blank, told-token, told-end}
@@ -10,6 +10,7 @@ use Rattle.mp_lex.proofs.lexer.lex.Goals as goal
 pub loop-at-preserved-then-is_blank : goal.loop-at-preserved-then-is_blank
 loop-at-preserved-then-is_blank c = record {
   within = omega arith;
+  few = omega (arith, c.loop-at.invariant.few);
   told = told-blank c.args.text.now c.loop-at.found c.loop-at.at _ _ c.loop-at-test.true refl (sym c.is_blank.ensures ∙ c.if-is_blank.true) c.loop-at.invariant.told;
 }
 
@@ -25,6 +26,7 @@ loop-at-preserved c =
     let told = told-token text c.loop-at.found c.loop-at.at _ (length t.bytes) t _ c.loop-at-test.true refl (sym c.is_blank.ensures ∙ c.if-is_blank.false) c.in_ok-token.ensures.value refl c.in_ok-token.ensures.some c.in_ok-token.ensures.within c.loop-at.invariant.told in
     record {
       within = c.in_ok-token.ensures.within;
+      few = omega (arith, c.loop-at.invariant.few, c.in_ok-token.ensures.some, ap length c.in_ok-add.ensures.ok, length-append c.loop-at.found (t ∷ []));
       told = ap (λ l. before l (tokens_from (drop (c.loop-at.at + length t.bytes) text) (c.loop-at.at + length t.bytes) 0)) c.in_ok-add.ensures.ok ∙ told;
     }
 
