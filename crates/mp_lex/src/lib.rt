@@ -9,3 +9,6 @@ pub mod tokens;
 pub use fault::LexFault;
 pub use lexer::lex;
 pub use tokens::{Token, Tokens};
+
+#[cfg(test)]
+mod tests;

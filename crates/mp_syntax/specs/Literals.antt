@@ -4,9 +4,13 @@ use Rattle.mp_syntax.specs.declared.token.TokenKind.{TokenKind}
 use Rattle.mp_syntax.specs.declared.token.TokenKind.TheVariants as k
 use Rattle.mp_syntax.specs.Tokens.{Tok}
 
+-- a number with one more digit
+abbrev pub with_digit : ℕ → ℕ → ℕ
+with_digit n d = 10 * n + (d - 48)
+
 -- the number that these digits write
 abbrev pub number_of : List ℕ → ℕ
-number_of digits = fold (λ n d. 10 * n + (d - 48)) 0 digits
+number_of digits = fold with_digit 0 digits
 
 -- a literal is at most 10^37
 abbrev pub is_in_range : List ℕ → Bool
