@@ -7,7 +7,6 @@ ghost use Rattle.mp_gram_expr.specs.Shown.{toks};
 ghost use Rattle.mp_gram_expr.specs.Gives.{Gives, GivesOption, with_front};
 
 use crate::rest::{Rest, Wrong, expect, next_is, wrong_at};
-use crate::terminal::terminal_of;
 use mp_file::{Atom, Factor, Named, Shift, Term};
 use mp_lex::Token;
 use mp_syntax::{Sign, Terminal};
@@ -22,7 +21,7 @@ fn shift_of<'a, 't>(tokens: Rest<'a, 't>) -> Result<(Shift<'t>, Rest<'a, 't>), W
     let Some((t, rest)) = tokens.split_first() else {
         return wrong_at(tokens);
     };
-    match terminal_of(t) {
+    match t.terminal() {
         Terminal::Whole => return Ok((
             Shift {
                 sign: Sign::Plus,
@@ -108,7 +107,7 @@ fn atom_of<'a, 't>(tokens: Rest<'a, 't>) -> Result<(Atom<'t>, Rest<'a, 't>), Wro
     let Some((t, rest)) = tokens.split_first() else {
         return wrong_at(tokens);
     };
-    match terminal_of(t) {
+    match t.terminal() {
         Terminal::Whole => return Ok((
             Atom::Number {
                 digits: t.text,
@@ -129,7 +128,7 @@ fn star_of<'a, 't>(tokens: Rest<'a, 't>) -> Option<(u32, Rest<'a, 't>)>
     ensures fewer { IfSome result (λ x. length x.1.now < length tokens.now) }
 {
     let (t, rest) = tokens.split_first()?;
-    if terminal_of(t) == Terminal::Star {
+    if t.terminal() == Terminal::Star {
         return Some((t.span.at, rest));
     }
     None
@@ -189,7 +188,7 @@ fn plus_of<'a, 't>(tokens: Rest<'a, 't>) -> Option<((Sign, u32), Rest<'a, 't>)>
     ensures fewer { IfSome result (λ x. length x.1.now < length tokens.now) }
 {
     let (t, rest) = tokens.split_first()?;
-    match terminal_of(t) {
+    match t.terminal() {
         Terminal::Plus => return Some(((Sign::Plus, t.span.at), rest)),
         Terminal::Minus => return Some(((Sign::Minus, t.span.at), rest)),
         _ => {}

@@ -4,7 +4,6 @@
 
 pub mod expression;
 pub mod rest;
-pub mod terminal;
 
 pub use expression::expr_of;
 pub use rest::{Rest, Wrong, expect, next_is, wrong_at};
