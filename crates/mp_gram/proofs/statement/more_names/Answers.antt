@@ -1,0 +1,29 @@
+use Rattle.std.proofs.Common.{◌≡◌, ◌+◌, ◌∷◌, ◌++◌, [], arith, ap, ◌∙◌, length, map}
+use Rattle.std.proofs.lemmas.List.{length_push, map_push}
+use Rattle.std.proofs.lemmas.Result.{err_from_is_err_and}
+use Rattle.mp_file.specs.Shown.{named_of}
+use Rattle.mp_gram_expr.specs.Shown.{toks}
+use Rattle.mp_reading.specs.Reading.{name_begins, name_at}
+use Rattle.mp_gram_expr.proofs.Rules.{length_toks}
+use Rattle.mp_gram_expr.proofs.More.{turn-next, turn-fails, turn-end}
+use Rattle.mp_gram.proofs.statement.more_names.Goals as goal
+
+pub returns-in_err-item-clause-value : goal.returns-in_err-item-clause-value
+returns-in_err-item-clause-value c =
+    let p = err_from_is_err_and c.from_residual.result c.from_residual.ensures.1 in
+    rw (p.1, p.2) (turn-fails name_begins name_at (length (toks c.args.tokens.now) + 1) (length (map named_of c.args.found)) (map named_of c.turns.found) (toks c.turns.rest.now) (toks c.in-Some.after.now) _ _ c.turns.invariant.told (omega (arith, length_toks c.args.tokens.now)) c.in-Some.ensures.value c.in_err-item.ensures.value)
+
+pub turns-preserved : goal.turns-preserved
+turns-preserved c =
+    let found = map named_of c.turns.found in
+    let item = named_of c.in_ok-item.item in
+    let pushed : map named_of c.push.new.self ≡ found ++ item ∷ [] = ap (map named_of) c.in_ok-push.ensures.ok ∙ map_push named_of c.turns.found c.in_ok-item.item in
+    record {
+      told = turn-next name_begins name_at (length (toks c.args.tokens.now) + 1) (length (map named_of c.args.found)) found (map named_of c.push.new.self) (toks c.turns.rest.now) (toks c.in-Some.after.now) (item, toks c.in_ok-item.next.now) _ c.turns.invariant.told (omega (arith, length_toks c.args.tokens.now)) c.in-Some.ensures.value c.in_ok-item.ensures.value pushed;
+      turns = omega (arith, ap length pushed, length_push found item, c.in-Some.ensures.fewer, c.in_ok-item.ensures.fewer);
+      fewer = omega (arith, c.in-Some.ensures.fewer, c.in_ok-item.ensures.fewer);
+    }
+
+pub returns-clause-value : goal.returns-clause-value
+returns-clause-value c =
+    turn-end name_begins name_at (length (toks c.args.tokens.now) + 1) (length (map named_of c.args.found)) (map named_of c.turns.found) (toks c.turns.rest.now) _ c.turns.invariant.told (omega (arith, length_toks c.args.tokens.now)) c.in_default.ensures.value
