@@ -3,7 +3,7 @@ use Rattle.std.proofs.Common.{◌≡◌, ℕ, List, [], ◌∷◌, ◌++◌, ref
 use Rattle.std.specs.List.{flat_map}
 use Rattle.mp_syntax.specs.declared.terminal.Sign.{Sign}
 use Rattle.mp_syntax.specs.declared.terminal.Sign.TheVariants as sign
-use Rattle.mp_syntax.specs.Syntax.{Expr, Plus, Minus, Times, Term, Factor, joined, with_terms, with_factors}
+use Rattle.mp_syntax.specs.Syntax.{Expr, Times, Term, Factor, joined, with_terms, with_factors}
 use Rattle.mp_syntax.specs.Spelling.{sign_byte, spelled}
 use Rattle.mp_file.specs.Shown.{product_of, sum_of}
 use Rattle.mp_print.specs.Parts.{spelled_factor, spelled_term}
@@ -40,4 +40,3 @@ spelled-sum first more = spelled-with_terms first.product more
 pub spelled-sum_none : spelled (sum_of []) ≡ 48 ∷ []
 unfolding spelled
 spelled-sum_none = refl
-

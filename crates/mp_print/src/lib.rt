@@ -5,3 +5,6 @@ pub mod expression;
 pub mod file;
 
 pub use file::print;
+
+#[cfg(test)]
+mod tests;

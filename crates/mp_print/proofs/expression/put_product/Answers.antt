@@ -11,4 +11,4 @@ returns-in_default c = rw (nil_from_length c.args.factors.now c.in_default.ensur
 pub returns : goal.returns
 returns c =
     rw (c.in-Some.ensures.cases.0, spelled-product (factor_of c.in-Some.first.now) (map factor_of c.in-Some.more.now))
-        (grind (arith, common_steps, c.turns.invariant, c.in_ok-put_atom.ensures))
+    (grind (arith, common_steps, c.turns.invariant, c.in_ok-put_atom.ensures))

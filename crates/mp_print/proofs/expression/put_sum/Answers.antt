@@ -11,4 +11,4 @@ returns-in_default c = rw (nil_from_length c.args.terms.now c.in_default.ensures
 pub returns : goal.returns
 returns c =
     rw (c.in-Some.ensures.cases.0, spelled-sum (term_of c.in-Some.first.now) (map term_of c.in-Some.more.now))
-        (grind (arith, common_steps, c.turns.invariant, c.in_ok-put_product.ensures))
+    (grind (arith, common_steps, c.turns.invariant, c.in_ok-put_product.ensures))

@@ -8,4 +8,4 @@ use Rattle.mp_print.proofs.file.have_items.Goals as goal
 pub returns-then-not-is_empty : goal.returns-then-not-is_empty
 returns-then-not-is_empty c =
     has_some_at statement_of items_in c.args.statements.now c.loop-statement.statement-index (length c.items_of.result.now) c.statement-item.result _ c.loop-statement-test.true c.statement-item.is
-        (omega (arith, simp length-map at (ap length c.items_of.ensures))) (sym c.is_empty.ensures ∙ c.if-not-is_empty.true) c.loop-statement.invariant
+    (omega (arith, simp length-map at (ap length c.items_of.ensures))) (sym c.is_empty.ensures ∙ c.if-not-is_empty.true) c.loop-statement.invariant
