@@ -8,3 +8,6 @@ pub mod statement;
 
 pub use fault::ParseFault;
 pub use parser::parse;
+
+#[cfg(test)]
+mod tests;

@@ -53,8 +53,8 @@ fn more_names<'a, 't>(
 {
     let (_, mut rest) = tokens.split_at(0);
     'turns: while let Some(after) = name_begins(rest) {
-        let (item, next) = name_of(after)?;
-        found.push(item)?;
+        let (name, next) = name_of(after)?;
+        found.push(name)?;
         rest = next;
     }
     Ok((found, rest))
@@ -137,8 +137,8 @@ pub fn more_statements<'a, 't>(
 {
     let (_, mut rest) = tokens.split_at(0);
     'turns: while let Some(after) = any_begins(rest) {
-        let (item, next) = statement_of(alloc, after)?;
-        found.push(item)?;
+        let (statement, next) = statement_of(alloc, after)?;
+        found.push(statement)?;
         rest = next;
     }
     Ok((found, rest))

@@ -158,8 +158,8 @@ fn more_factors<'a, 't>(
 {
     let (_, mut rest) = tokens.split_at(0);
     'turns: while let Some((at, after)) = star_of(rest) {
-        let (item, next) = factor_of(at, after)?;
-        found.push(item)?;
+        let (factor, next) = factor_of(at, after)?;
+        found.push(factor)?;
         rest = next;
     }
     Ok((found, rest))
@@ -223,8 +223,8 @@ fn more_terms<'a, 't>(
 {
     let (_, mut rest) = tokens.split_at(0);
     'turns: while let Some((operator, after)) = plus_of(rest) {
-        let (item, next) = term_of(alloc, operator, after)?;
-        found.push(item)?;
+        let (term, next) = term_of(alloc, operator, after)?;
+        found.push(term)?;
         rest = next;
     }
     Ok((found, rest))

@@ -9,6 +9,7 @@ use Rattle.mp_syntax.specs.Terminals.{terminal_of}
 use Rattle.mp_syntax.specs.Syntax.{Shift, Named, Expr, Number, Variable, Term, Factor, with_terms, with_factors, Item, Statement, Vars, Model}
 use Rattle.mp_syntax.specs.Grammar.{named}
 
+-- a value and the tokens after it, or the tokens from the wrong one on
 abbrev pub Read : Type 0 → Type 0
 Read X = Result (X × List Tok) (List Tok)
 
@@ -54,15 +55,18 @@ unfoldable pub token_at : Terminal → List Tok → Read Tok
 token_at k [] = Err []
 token_at k (t ∷ ts) = if is k (terminal_of t) then Ok (t, ts) else Err (t ∷ ts)
 
+-- the shift of these digits, after its sign
 unfoldable pub digits_at : Sign → List Tok → Read Shift
 digits_at s ts = token_at t.Whole ts >>= λ w. Ok (record { sign = s; digits = w.0.bytes }, w.1)
 
+-- by the first token
 abbrev pub shift_by : Terminal → Tok → List Tok → Read Shift
 shift_by t.Whole t ts = Ok (record { sign = sign.Plus; digits = t.bytes }, ts)
 shift_by t.Plus t ts = digits_at sign.Plus ts
 shift_by t.Minus t ts = digits_at sign.Minus ts
 shift_by _ t ts = Err (t ∷ ts)
 
+-- ["+" | "-"] WHOLE
 unfoldable pub shift_at : List Tok → Read Shift
 shift_at [] = Err []
 shift_at (t ∷ ts) = shift_by (terminal_of t) t ts
@@ -74,14 +78,17 @@ shifted_at name ts = do
   c ← token_at t.Close s.1
   Ok (Variable name (Some s.0), c.1)
 
+-- the variable of this name, with the shift after it if there is one
 unfoldable pub variable_at : Tok → List Tok → Read Expr
 variable_at n ts = if next_is t.Open ts then shifted_at (named n) (drop 1 ts) else Ok (Variable (named n) None, ts)
 
+-- by the first token
 abbrev pub atom_by : Terminal → Tok → List Tok → Read Expr
 atom_by t.Whole t ts = Ok (Number t.bytes t.at, ts)
 atom_by t.Name t ts = variable_at t ts
 atom_by _ t ts = Err (t ∷ ts)
 
+-- a number or a variable
 unfoldable pub atom_at : List Tok → Read Expr
 atom_at [] = Err []
 atom_at (t ∷ ts) = atom_by (terminal_of t) t ts
@@ -96,6 +103,7 @@ more_at (suc n) begin step ts =
 abbrev pub all_at : {B X : Type 0} → (List Tok → Option B) → (B → Read X) → List Tok → Read (List X)
 all_at begin step ts = more_at (length ts + 1) begin step ts
 
+-- by the first token
 abbrev pub star_by : Terminal → Tok → List Tok → Option (ℕ × List Tok)
 star_by t.Star t ts = Some (t.at, ts)
 star_by _ t ts = None
@@ -109,12 +117,14 @@ star_at (t ∷ ts) = star_by (terminal_of t) t ts
 unfoldable pub factor_at : ℕ × List Tok → Read Factor
 factor_at b = atom_at b.1 >>= λ a. Ok (record { at = b.0; atom = a.0 }, a.1)
 
+-- an atom, and all factors that follow
 unfoldable pub product_at : List Tok → Read Expr
 product_at ts = do
   first ← atom_at ts
   more ← all_at star_at factor_at first.1
   Ok (with_factors first.0 more.0, more.1)
 
+-- by the first token
 abbrev pub plus_by : Terminal → Tok → List Tok → Option ((Sign × ℕ) × List Tok)
 plus_by t.Plus t ts = Some ((sign.Plus, t.at), ts)
 plus_by t.Minus t ts = Some ((sign.Minus, t.at), ts)
@@ -129,6 +139,7 @@ plus_at (t ∷ ts) = plus_by (terminal_of t) t ts
 unfoldable pub term_at : (Sign × ℕ) × List Tok → Read Term
 term_at b = product_at b.1 >>= λ p. Ok (record { sign = b.0.0; at = b.0.1; product = p.0 }, p.1)
 
+-- a product, and all terms that follow
 unfoldable pub sum_at : List Tok → Read Expr
 sum_at ts = do
   first ← product_at ts
@@ -146,10 +157,12 @@ right_at left ts = do
 unfoldable pub alone_at : Expr → List Tok → Read Item
 alone_at left ts = token_at t.Semicolon ts >>= λ c. Ok (record { left = left; right = None }, c.1)
 
+-- a side, and the other after "="
 unfoldable pub item_at : List Tok → Read Item
 item_at ts =
     sum_at ts >>= λ left. if next_is t.Equals left.1 then right_at left.0 (drop 1 left.1) else alone_at left.0 left.1
 
+-- by the first token
 abbrev pub item_by : Terminal → List Tok → Option (List Tok)
 item_by t.End ts = None
 item_by _ ts = Some ts
@@ -159,9 +172,11 @@ unfoldable pub item_begins : List Tok → Option (List Tok)
 item_begins [] = None
 item_begins (t ∷ ts) = item_by (terminal_of t) (t ∷ ts)
 
+-- one name
 unfoldable pub name_at : List Tok → Read Named
 name_at ts = token_at t.Name ts >>= λ n. Ok (named n.0, n.1)
 
+-- by the first token
 abbrev pub name_by : Terminal → Tok → List Tok → Option (List Tok)
 name_by t.Name t ts = Some (t ∷ ts)
 name_by t.Comma t ts = Some ts
@@ -189,11 +204,13 @@ model_at at ts = do
   c ← token_at t.Semicolon last.1
   Ok (Model at items.0, c.1)
 
+-- by the first token
 abbrev pub statement_by : Terminal → Tok → List Tok → Read Statement
 statement_by t.Var t ts = vars_at ts
 statement_by t.Model t ts = model_at t.at ts
 statement_by _ t ts = Err (t ∷ ts)
 
+-- a declaration or a model block
 unfoldable pub statement_at : List Tok → Read Statement
 statement_at [] = Err []
 statement_at (t ∷ ts) = statement_by (terminal_of t) t ts

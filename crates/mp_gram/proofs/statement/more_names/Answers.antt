@@ -8,20 +8,20 @@ use Rattle.mp_gram_expr.proofs.Rules.{length_toks}
 use Rattle.mp_gram_expr.proofs.More.{turn-next, turn-fails, turn-end}
 use Rattle.mp_gram.proofs.statement.more_names.Goals as goal
 
-pub returns-in_err-item-clause-value : goal.returns-in_err-item-clause-value
-returns-in_err-item-clause-value c =
+pub returns-in_err-name-clause-value : goal.returns-in_err-name-clause-value
+returns-in_err-name-clause-value c =
     let p = err_from_is_err_and c.from_residual.result c.from_residual.ensures.1 in
-    rw (p.1, p.2) (turn-fails name_begins name_at (length (toks c.args.tokens.now) + 1) (length (map named_of c.args.found)) (map named_of c.turns.found) (toks c.turns.rest.now) (toks c.in-Some.after.now) _ _ c.turns.invariant.told (omega (arith, length_toks c.args.tokens.now)) c.in-Some.ensures.value c.in_err-item.ensures.value)
+    rw (p.1, p.2) (turn-fails name_begins name_at (length (toks c.args.tokens.now) + 1) (length (map named_of c.args.found)) (map named_of c.turns.found) (toks c.turns.rest.now) (toks c.in-Some.after.now) _ _ c.turns.invariant.told (omega (arith, length_toks c.args.tokens.now)) c.in-Some.ensures.value c.in_err-name.ensures.value)
 
 pub turns-preserved : goal.turns-preserved
 turns-preserved c =
     let found = map named_of c.turns.found in
-    let item = named_of c.in_ok-item.item in
-    let pushed : map named_of c.push.new.self ≡ found ++ item ∷ [] = ap (map named_of) c.in_ok-push.ensures.ok ∙ map_push named_of c.turns.found c.in_ok-item.item in
+    let name = named_of c.in_ok-name.name in
+    let pushed : map named_of c.push.new.self ≡ found ++ name ∷ [] = ap (map named_of) c.in_ok-push.ensures.ok ∙ map_push named_of c.turns.found c.in_ok-name.name in
     record {
-      told = turn-next name_begins name_at (length (toks c.args.tokens.now) + 1) (length (map named_of c.args.found)) found (map named_of c.push.new.self) (toks c.turns.rest.now) (toks c.in-Some.after.now) (item, toks c.in_ok-item.next.now) _ c.turns.invariant.told (omega (arith, length_toks c.args.tokens.now)) c.in-Some.ensures.value c.in_ok-item.ensures.value pushed;
-      turns = omega (arith, ap length pushed, length_push found item, c.in-Some.ensures.fewer, c.in_ok-item.ensures.fewer);
-      fewer = omega (arith, c.in-Some.ensures.fewer, c.in_ok-item.ensures.fewer);
+      told = turn-next name_begins name_at (length (toks c.args.tokens.now) + 1) (length (map named_of c.args.found)) found (map named_of c.push.new.self) (toks c.turns.rest.now) (toks c.in-Some.after.now) (name, toks c.in_ok-name.next.now) _ c.turns.invariant.told (omega (arith, length_toks c.args.tokens.now)) c.in-Some.ensures.value c.in_ok-name.ensures.value pushed;
+      turns = omega (arith, ap length pushed, length_push found name, c.in-Some.ensures.fewer, c.in_ok-name.ensures.fewer);
+      fewer = omega (arith, c.in-Some.ensures.fewer, c.in_ok-name.ensures.fewer);
     }
 
 pub returns-clause-value : goal.returns-clause-value
