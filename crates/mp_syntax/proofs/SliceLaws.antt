@@ -1,9 +1,9 @@
 -- The tokens of a text are slices of it, in order and apart.
-use Rattle.std.proofs.Common.{◌≡◌, ℕ, zero, suc, ◌+◌, ◌-◌, ◌<◌, ◌≤◌, List, [], ◌∷◌, ◌++◌, length, take, drop, Bool, true, false, cond, Option, Some, None, Result, Ok, Err, refl, sym, ap, subst, ◌∙◌, arith, add-zero}
+use Rattle.std.proofs.Common.{◌≡◌, ℕ, zero, suc, ◌+◌, ◌-◌, ◌<◌, ◌≤◌, List, [], ◌∷◌, length, take, drop, Bool, true, false, cond, Option, Some, None, Result, Ok, Err, refl, sym, ap, subst, ◌∙◌, arith, add-zero}
 use Rattle.std.proofs.lemmas.List.{drop-drop, length-take, take_min}
 use Rattle.mp_syntax.specs.declared.token.TokenKind.{TokenKind}
-use Rattle.mp_syntax.specs.Tokens.{Tok, Fault, BadByte, LongName, is_blank, is_long, kind_of, more_of, token_at, token_of, before, and_then, tokens_from, tokens}
-use Rattle.mp_syntax.specs.Slices.{IsSlice, Stand}
+use Rattle.mp_syntax.specs.Tokens.{Tok, Fault, LongName, is_blank, is_long, kind_of, more_of, token_at, token_of, before, and_then, tokens_from, tokens}
+use Rattle.mp_syntax.specs.Slices.{Stand}
 
 -- a token that was made stands at the front
 record Made (t : Tok) (at : ℕ) (bs : List ℕ) : Type 0 where
@@ -23,6 +23,7 @@ made t at b bs e = by (kind_of b) e
     at_kind kind n false h =
         let s : record { kind = kind; bytes = b ∷ take n bs; at = at } ≡ t = cc in
         subst (λ u. Made u at (b ∷ bs)) s (record { place = refl; front = shown b n bs; some = omega arith })
+
     by : (k : Option TokenKind) → token_of k at b bs ≡ Ok t → Made t at (b ∷ bs)
     by None h = absurd cc
     by (Some kind) h = at_kind kind (more_of kind bs) (is_long kind (more_of kind bs)) h
@@ -41,6 +42,7 @@ stand-token text bs b at ts d more (Ok t) e h = by (tokens_from bs (at + 1) (len
   where
     m : Made t at (b ∷ bs)
     m = made t at b bs e
+
     by : (r : Result (List Tok) Fault) → tokens_from bs (at + 1) (length t.bytes - 1) ≡ r → before (t ∷ []) r ≡ Ok ts → Stand text at ts
     by (Err f) k g = absurd cc
     by (Ok us) k g =
