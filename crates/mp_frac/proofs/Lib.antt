@@ -1,0 +1,9 @@
+pub mod Halves
+pub mod Outcomes
+pub mod Values
+pub mod Quotients
+pub mod Sums
+pub mod Products
+pub mod Powers
+pub mod Orders
+pub mod Meaning

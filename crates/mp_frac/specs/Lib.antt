@@ -1,0 +1,4 @@
+pub mod Limit
+pub mod Wide
+pub mod Stated
+pub mod Value

@@ -1,0 +1,5 @@
+use Rattle.mp_spelling.proofs.Backs.{file_written}
+use Rattle.mp_spelling.proofs.written_law.Goals as goal
+
+pub returns : goal.returns
+returns c = file_written
