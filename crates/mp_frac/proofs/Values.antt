@@ -3,11 +3,16 @@ use Rattle.std.proofs.Common.{◌≡◌, ℕ, ℤ, ◌<◌, ◌≤◌, ap, sym, 
 use Rattle.std.proofs.Math.Bridge.{le_prop}
 use Rattle.std.specs.Int.{IsGcd}
 use Rattle.std.specs.Int.RustNames.{unsigned_abs}
+use Rattle.mp_rational.specs.Fraction.{ratio_of}
 use Rattle.mp_rational.specs.Lowest.{numerator, denominator}
 use Rattle.mp_rational.proofs.Lowest.{numerator-ratio_of, denominator-ratio_of, denominator_positive, parts_coprime}
 use Rattle.mp_frac.specs.Limit.{limit}
 use Rattle.mp_frac.specs.Value.{value_of}
 use Rattle.mp_frac.specs.declared.frac.Frac.{Frac}
+
+-- the value of a `Frac` whose parts are known
+pub value_by : (f : Frac) {n : ℤ} {d : ℕ} → f.num ≡ n → f.den ≡ d → value_of f ≡ ratio_of n d
+value_by f {n} {d} e h = ap (λ (m : ℤ). ratio_of m f.den) e ∙ ap (ratio_of n) h
 
 pub numerator-value_of : (f : Frac) → numerator (value_of f) ≡ f.num
 numerator-value_of f = numerator-ratio_of f.num f.den f.positive f.coprime

@@ -4,12 +4,10 @@ ghost use Rattle.std.specs.Int.{IsGcd};
 ghost use Rattle.std.specs.Int.RustNames.{unsigned_abs};
 ghost use Rattle.mp_frac.specs.Limit.{limit};
 
-use mp_integer::Whole;
-
 /// A fraction in lowest terms, with a positive denominator and both parts at most 10^37 in magnitude.
-#[derive(Clone, Copy)]
+#[derive(Clone, Copy, Debug, PartialEq, Eq)]
 pub struct Frac {
-    pub(crate) num: Whole,
+    pub(crate) num: i128,
     pub(crate) den: u128,
     ghost positive: { 0 < den },
     ghost num_small: { unsigned_abs num ≤ limit },

@@ -1,5 +1,5 @@
 // Fractions from their parts, and the parts of a fraction.
-ghost use Rattle.std.specs.Prelude.{◌≡◌, ◌<◌, ◌≤◌, ◌<ℤ◌, pos};
+ghost use Rattle.std.specs.Prelude.{◌≡◌, ◌<◌, ◌≤◌, ◌↔◌, ◌<ℤ◌, IsTrue, pos};
 ghost use Rattle.std.specs.Int.{IsGcd};
 ghost use Rattle.std.specs.Int.RustNames.{unsigned_abs};
 ghost use Rattle.mp_integer.specs.Sign.{signed};
@@ -48,10 +48,43 @@ impl Frac {
         if top > LIMIT || bottom > LIMIT {
             return Err(FracFault::Overflow);
         }
-        Ok(Frac {
-            num: Whole::signed(negative, top),
-            den: bottom,
-        })
+        Ok(Frac::from_parts(Whole::signed(negative, top), bottom))
+    }
+
+    // The fraction with these parts.
+    pub(crate) fn from_parts(num: Whole, den: u128) -> Frac
+        requires positive { 0 < den }
+        requires num_small { unsigned_abs num ≤ limit }
+        requires den_small { den ≤ limit }
+        requires coprime { IsGcd (unsigned_abs num) den 1 }
+        ensures num { result.num ≡ num }
+        ensures den { result.den ≡ den }
+    {
+        Frac {
+            num: num.value(),
+            den,
+        }
+    }
+
+    // The numerator, as a whole number.
+    pub(crate) fn numerator(self) -> Whole
+        ensures { result ≡ self.num }
+    {
+        Whole::of(self.num)
+    }
+
+    // The magnitude of the numerator.
+    pub(crate) fn magnitude(self) -> u128
+        ensures { result ≡ unsigned_abs self.num }
+    {
+        self.numerator().magnitude()
+    }
+
+    // Whether it is below 0.
+    pub(crate) fn is_negative(self) -> bool
+        ensures { IsTrue result ↔ (self.num <ℤ pos 0) }
+    {
+        self.numerator().is_negative()
     }
 
     /// Numerator and denominator in lowest terms.
@@ -64,7 +97,7 @@ impl Frac {
         ensures lowest_terms { IsGcd (unsigned_abs result.n) (unsigned_abs result.d) 1 }
     {
         Ratio {
-            n: self.num.value(),
+            n: self.num,
             d: self.den as i128,
         }
     }

@@ -16,9 +16,9 @@ impl Frac {
         ensures greater { (result ≡ Ordering.Greater)
             ↔ IsTrue (less (value_of other.now) (value_of self.now)) }
     {
-        let left = self.num.magnitude();
-        let right = other.num.magnitude();
-        match (self.num.is_negative(), other.num.is_negative()) {
+        let left = self.magnitude();
+        let right = other.magnitude();
+        match (self.is_negative(), other.is_negative()) {
             (false, false) => cmp_products(left, other.den, right, self.den),
             (false, true) => Ordering::Greater,
             (true, false) => Ordering::Less,

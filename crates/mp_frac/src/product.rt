@@ -10,19 +10,12 @@ use crate::natural::{gcd, product};
 use mp_integer::Whole;
 
 impl Frac {
-    /// The product.
+    /// The product. Common divisors are taken out before the parts are multiplied.
     pub fn mul(self, other: Frac) -> Result<Frac, FracFault>
         ensures { outcome_of result ≡ product_outcome (value_of self) (value_of other) }
     {
-        self.multiplied(&other)
-    }
-
-    // The product. Common divisors are taken out before the parts are multiplied.
-    fn multiplied(&self, other: &Frac) -> Result<Frac, FracFault>
-        ensures { outcome_of result ≡ product_outcome (value_of self.now) (value_of other.now) }
-    {
-        let left = self.num.magnitude();
-        let right = other.num.magnitude();
+        let left = self.magnitude();
+        let right = other.magnitude();
         let g = gcd(left, other.den);
         let h = gcd(right, self.den);
         let Some(top) = product(left / g, right / h) else {
@@ -31,11 +24,7 @@ impl Frac {
         let Some(bottom) = product(self.den / h, other.den / g) else {
             return Err(FracFault::Overflow);
         };
-        Frac::coprime(
-            self.num.is_negative() != other.num.is_negative(),
-            top,
-            bottom,
-        )
+        Frac::coprime(self.is_negative() != other.is_negative(), top, bottom)
     }
 
     /// The quotient, which multiplies by the reciprocal.
@@ -55,14 +44,11 @@ impl Frac {
             (λ r. IsFalse (is_zero (value_of self)) × (value_of r ≡ inv (value_of self)))
             (λ e. (e ≡ FracFault.ZeroDivisor) × IsTrue (is_zero (value_of self))) }
     {
-        let magnitude = self.num.magnitude();
+        let magnitude = self.magnitude();
         if magnitude == 0 {
             return Err(FracFault::ZeroDivisor);
         }
-        Ok(Frac {
-            num: Whole::signed(self.num.is_negative(), self.den),
-            den: magnitude,
-        })
+        Ok(Frac::from_parts(Whole::signed(self.is_negative(), self.den), magnitude))
     }
 
     /// The power with a whole exponent: with exponent 0 it is 1, and with a negative exponent the
@@ -79,12 +65,12 @@ impl Frac {
     }
 
     // The product of n factors, from the left, beginning with 1.
-    fn times(&self, n: u8) -> Result<Frac, FracFault>
-        ensures { outcome_of result ≡ product_times (value_of self.now) n }
+    fn times(self, n: u8) -> Result<Frac, FracFault>
+        ensures { outcome_of result ≡ product_times (value_of self) n }
     {
         let mut power = Frac::one();
         for _i in 0..n {
-            match power.multiplied(self) {
+            match power.mul(self) {
                 Ok(next) => power = next,
                 Err(fault) => return Err(fault),
             }
@@ -96,9 +82,6 @@ impl Frac {
     fn one() -> Frac
         ensures { value_of result ≡ one }
     {
-        Frac {
-            num: Whole::of(1),
-            den: 1,
-        }
+        Frac { num: 1, den: 1 }
     }
 }

@@ -11,11 +11,11 @@ use crate::frac::Frac;
 use crate::natural::{LIMIT, gcd, product};
 use mp_integer::Whole;
 
-// x * k, where its magnitude is within the limit.
-fn scaled(x: Whole, k: u128) -> Option<Whole>
+// The numerator of x times k, where its magnitude is within the limit.
+fn scaled(x: Frac, k: u128) -> Option<Whole>
     ensures { MatchOption result
-        (limit < unsigned_abs (x *ℤ pos k))
-        (λ y. (y ≡ x *ℤ pos k) × (unsigned_abs (x *ℤ pos k) ≤ limit)) }
+        (limit < unsigned_abs (x.num *ℤ pos k))
+        (λ y. (y ≡ x.num *ℤ pos k) × (unsigned_abs (x.num *ℤ pos k) ≤ limit)) }
 {
     let magnitude = product(x.magnitude(), k)?;
     Some(Whole::signed(x.is_negative(), magnitude))
@@ -29,10 +29,10 @@ impl Frac {
         let g = gcd(self.den, other.den);
         let left_factor = other.den / g;
         let right_factor = self.den / g;
-        let Some(left) = scaled(self.num, left_factor) else {
+        let Some(left) = scaled(self, left_factor) else {
             return Err(FracFault::Overflow);
         };
-        let Some(right) = scaled(other.num, right_factor) else {
+        let Some(right) = scaled(other, right_factor) else {
             return Err(FracFault::Overflow);
         };
         let Some(bottom) = product(self.den, left_factor) else {
@@ -58,9 +58,6 @@ impl Frac {
     fn negated(self) -> Frac
         ensures { value_of result ≡ neg (value_of self) }
     {
-        Frac {
-            num: self.num.negated(),
-            den: self.den,
-        }
+        Frac::from_parts(self.numerator().negated(), self.den)
     }
 }

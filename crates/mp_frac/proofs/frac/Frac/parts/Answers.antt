@@ -1,9 +1,9 @@
-use Rattle.std.proofs.Common.{◌≡◌, ℤ, pos, ◌≤◌, ap, sym, ◌∙◌, arith, subst, SFits, rules, to_z, of_z}
+use Rattle.std.proofs.Common.{◌≡◌, ℤ, pos, ◌≤◌, ap, sym, ◌∙◌, arith, subst, to_z, of_z}
 use Rattle.std.specs.Prelude.{◌<ℤ◌}
 use mir.Syntax.{w128}
 use Rattle.std.specs.Int.{IsGcd}
 use Rattle.std.specs.Int.RustNames.{unsigned_abs}
-use Rattle.std.proofs.lemmas.Int.{to_z-of_z, to_z_pos, ints}
+use Rattle.std.proofs.lemmas.Int.{to_z-of_z, to_z_pos, fits_signed_from_abs, ints}
 use Rattle.mp_frac.specs.Limit.{limit}
 use Rattle.mp_frac.proofs.Values.{numerator-value_of, denominator-value_of}
 use Rattle.mp_frac.proofs.frac.Frac.parts.Goals as goal
@@ -11,8 +11,7 @@ use Rattle.mp_frac.proofs.frac.Frac.parts.Goals as goal
 pub returns : goal.returns
 returns c =
     let f = c.args.self.now in
-    let fits : SFits w128 c.value.result = search rules in
-    let n_is : to_z w128 (of_z w128 c.value.result) ≡ f.num = to_z-of_z w128 c.value.result fits ∙ c.value.ensures in
+    let n_is : to_z w128 (of_z w128 f.num) ≡ f.num = to_z-of_z w128 f.num (fits_signed_from_abs w128 f.num (omega (arith, f.num_small))) in
     let d_is : to_z w128 f.den ≡ pos f.den = to_z_pos w128 f.den (omega (arith, f.den_small)) in
     record {
       numerator = n_is ∙ sym (numerator-value_of f);
