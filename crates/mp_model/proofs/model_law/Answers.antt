@@ -1,0 +1,5 @@
+use Rattle.mp_model.proofs.Same.{same_model}
+use Rattle.mp_model.proofs.model_law.Goals as goal
+
+pub returns : goal.returns
+returns c = same_model

@@ -1,0 +1,2 @@
+pub mod ModelOf
+pub mod Headline
