@@ -1,3 +1,4 @@
 pub mod Canonical
 pub mod Places
 pub mod Steps
+pub mod Headlines

@@ -4,6 +4,7 @@ ghost use Rattle.mp_outside.specs.Outside.{Later, Tells};
 ghost use Rattle.mp_tell.specs.Lines.{line, HasReduced};
 ghost use Rattle.mp_run.specs.Verdict.{words_name, run_gives};
 ghost use Rattle.mp_run.specs.Answers.{SaysFiles, ShowsCause, EndsEarly, AsVerdict, Complete, ShowsSink, WritesCanonical};
+ghost use Rattle.mp_run.specs.Headline.{WritesSameSolutions};
 
 use crate::reading::{end_line, fetch};
 use crate::transform::transformed;
@@ -27,6 +28,8 @@ pub fn run<F: Files, O: Sink, E: Sink, L: Ledger>(
     ensures verdict { AsVerdict (F.outside files.old).listing words.now (O.held out.old) (O.held out.new) result }
     ensures complete { Complete words.now (F.outside files.old) (F.outside files.new) (O.held out.old) (O.held out.new) result }
     ensures canonical { WritesCanonical (F.outside files.old).listing words.now (O.held out.old) (O.held out.new) result }
+    // A path solves what is written exactly when it solves what was read.
+    ensures headline { WritesSameSolutions (F.outside files.old).listing words.now (O.held out.old) (O.held out.new) result }
 
     // What is answered in any case.
     ensures wrong_words { (w : ℕ) → words_name words.now ≡ Err (Outcome.Words w) → result ≡ Outcome.Words w }
@@ -37,6 +40,7 @@ pub fn run<F: Files, O: Sink, E: Sink, L: Ledger>(
     ensures counted { steps.new ≡ steps.old }
 {
     let _ = steps;
+    mp_model::headline_law();
     let outcome = written(alloc, words, files, out);
     mp_tell::tell(err, &outcome);
     outcome
