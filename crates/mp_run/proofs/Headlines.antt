@@ -1,5 +1,5 @@
 -- The canonical spelling of a text's file has its solutions.
-use Rattle.std.proofs.Common.{◌≡◌, ℕ, List, Option, Some, None, IfSome, Ok, sym, subst}
+use Rattle.std.proofs.Common.{◌≡◌, ℕ, List, Option, Some, None, Ok, sym, subst}
 use Rattle.mp_base.specs.declared.outcome.Outcome.{Outcome}
 use Rattle.mp_base.specs.declared.outcome.Outcome.TheVariants as o
 use Rattle.mp_syntax.specs.Tokens.{Tok, tokens}

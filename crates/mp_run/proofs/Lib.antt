@@ -1,4 +1,3 @@
-pub mod Canonical
 pub mod Places
 pub mod Steps
 pub mod Headlines
