@@ -1,2 +1,3 @@
 pub mod ModelOf
 pub mod Headline
+pub mod Example
