@@ -1,8 +1,12 @@
-//! What a text declares, from its tokens and its file. So far: which numbers it may write.
+//! What a text declares, from its tokens and its file: which numbers it may write, and its first fault in declaring
+//! its model.
 #![tactic(auto)]
 
+pub mod fault;
+pub mod known;
 pub mod literals;
 
+pub use fault::DeclFault;
 pub use literals::far_literal;
 
 #[cfg(test)]

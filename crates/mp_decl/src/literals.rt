@@ -1,6 +1,6 @@
 // Which numbers a text may write.
-ghost use Rattle.std.specs.Prelude.{◌≡◌};
-ghost use Rattle.mp_syntax.specs.Literals.{far_literal, is_far, is_in_range};
+ghost use Rattle.std.specs.Prelude.{◌≡◌, ◌≤◌, ◌^◌, nat_le};
+ghost use Rattle.mp_syntax.specs.Literals.{far_literal, is_far, number_of};
 ghost use Rattle.mp_lex.specs.Shown.{tok_of};
 
 use mp_lex::{Token, Tokens};
@@ -26,17 +26,18 @@ pub fn far_literal(tokens: &Tokens) -> Option<u32>
 fn is_far(token: &Token) -> bool
     ensures { result ≡ is_far (tok_of token.now) }
 {
-    token.kind == TokenKind::Whole && !is_in_range(token.text)
+    token.kind == TokenKind::Whole && !is_at_most(token.text, LIMIT)
 }
 
-// Whether these digits write at most 10^37. It ends at the digit that goes beyond.
-fn is_in_range(digits: &[u8]) -> bool
-    ensures { result ≡ is_in_range digits.now }
+// Whether these digits write at most this limit. It ends at the digit that goes beyond.
+pub(crate) fn is_at_most(digits: &[u8], limit: u128) -> bool
+    requires { limit ≤ 10 ^ 37 }
+    ensures { result ≡ nat_le (number_of digits.now) limit }
 {
     let mut value: u128 = 0;
     for digit in digits {
         value = 10 * value + digit.saturating_sub(b'0') as u128;
-        if value > LIMIT {
+        if value > limit {
             return false;
         }
     }

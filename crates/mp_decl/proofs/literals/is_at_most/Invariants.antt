@@ -1,10 +1,10 @@
-use Rattle.std.proofs.Common.{◌≡◌, ◌≤◌, ◌^◌, drop}
+use Rattle.std.proofs.Common.{◌≡◌, ◌≤◌, drop}
 use Rattle.std.specs.List.{fold}
 use Rattle.mp_syntax.specs.Literals.{with_digit, number_of}
-use Rattle.mp_decl.proofs.literals.is_in_range.Given as goal
+use Rattle.mp_decl.proofs.literals.is_at_most.Given as goal
 
 abbrev pub invariant-loop-digit : goal.invariant-loop-digit
 invariant-loop-digit l = record {
-  near : l.value ≤ 10 ^ 37;
+  near : l.value ≤ l.limit;
   whole : fold with_digit l.value (drop l.digit-index l.digits) ≡ number_of l.digits;
 }
