@@ -3,15 +3,16 @@ use Rattle.std.specs.Prelude.{◌≡◌, List, Option, Some, None, Result, Ok, E
 use Rattle.mp_declared.specs.Declared.{Point, Fault}
 use Rattle.mp_decl.specs.declared.fault.DeclFault.{DeclFault}
 use Rattle.mp_decl.specs.declared.fault.DeclFault.TheVariants as f
-use Rattle.mp_decl.specs.Walk.{Facts, walk}
+use Rattle.mp_decl.specs.declared.known.Known.{Known}
+use Rattle.mp_decl.specs.Walk.{walk}
 
 -- this is the first fault of the walk, or there was no memory
-abbrev pub Stops : DeclFault → Result Facts Fault → Type 0
+abbrev pub Stops : DeclFault → Result Known Fault → Type 0
 Stops (f.Declared kind name at) walked = walked ≡ Err (record { kind = kind; name = name; at = at })
 Stops f.NoMemory walked = Unit {0}
 
 -- a call took what is known from old to new by these points, or stopped at their first fault
-abbrev pub Walks : {X : Type 0} → Result X DeclFault → Facts → Facts → List Point → Type 0
+abbrev pub Walks : {X : Type 0} → Result X DeclFault → Known → Known → List Point → Type 0
 Walks (Ok x) old new points = walk old points ≡ Ok new
 Walks (Err fault) old new points = Stops fault (walk old points)
 

@@ -5,8 +5,11 @@
 pub mod fault;
 pub mod known;
 pub mod literals;
+pub mod names;
+pub mod walk;
 
 pub use fault::DeclFault;
+pub use known::Known;
 pub use literals::far_literal;
 
 #[cfg(test)]
