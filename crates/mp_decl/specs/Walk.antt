@@ -1,5 +1,5 @@
 -- The points of a file, one after the other.
-use Rattle.std.specs.Prelude.{ℕ, List, [], ◌∷◌, ◌++◌, codes, Bool, true, not, Option, Some, None, Result, Ok, Err}
+use Rattle.std.specs.Prelude.{ℕ, List, [], ◌∷◌, ◌++◌, length, codes, Bool, true, not, ◌==◌, Option, Some, None, Result, Ok, Err}
 use Rattle.std.specs.List.{list_any}
 use Rattle.std.specs.Str.{bytes_eq}
 use Rattle.mp_base.specs.declared.kinds.DeclKind.TheVariants as k
@@ -31,3 +31,8 @@ unless None rest = rest
 abbrev pub walk : Known → List Point → Result Known Fault
 walk f [] = Ok f
 walk f (p ∷ ps) = unless (point_fault f p) (walk (with_point f p) ps)
+
+-- the first fault of the whole, by what is known of it and how many equations it has
+abbrev pub known_fault : ℕ → Known → ℕ → Option Fault
+known_fault end f equations =
+    first_fault (fault_if (not f.begun) k.NoModel [] end ∷ fault_if (length f.names == 0) k.Empty [] end ∷ fault_if (not (equations == length f.names)) k.EquationCount [] end ∷ [])

@@ -20,3 +20,8 @@ Walks (Err fault) old new points = Stops fault (walk old points)
 abbrev pub Is : DeclFault → Option Fault → Type 0
 Is (f.Declared kind name at) fault = fault ≡ Some (record { kind = kind; name = name; at = at })
 Is f.NoMemory fault = Unit {0}
+
+-- a test found no fault, or this one
+abbrev pub Finds : {X : Type 0} → Result X DeclFault → Option Fault → Type 0
+Finds (Ok x) fault = fault ≡ None
+Finds (Err e) fault = Is e fault

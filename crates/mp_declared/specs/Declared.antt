@@ -83,7 +83,11 @@ variables file = flat_map names_in file
 abbrev pub has_model : List Statement → Bool
 has_model file = list_any begins (points_of file)
 
--- the file's first fault: of its points, and then of the whole, at the end of the text
+-- the first fault of the file as a whole, at the end of the text
+abbrev pub whole_fault : ℕ → List Statement → Option Fault
+whole_fault end file =
+    first_fault (fault_if (not (has_model file)) k.NoModel [] end ∷ fault_if (length (variables file) == 0) k.Empty [] end ∷ fault_if (not (length (equations file) == length (variables file))) k.EquationCount [] end ∷ [])
+
+-- the file's first fault: of its points, and then of the whole
 abbrev pub declared_fault : ℕ → List Statement → Option Fault
-declared_fault end file =
-    first_fault (walk_fault file ∷ fault_if (not (has_model file)) k.NoModel [] end ∷ fault_if (length (variables file) == 0) k.Empty [] end ∷ fault_if (not (length (equations file) == length (variables file))) k.EquationCount [] end ∷ [])
+declared_fault end file = first_fault (walk_fault file ∷ whole_fault end file ∷ [])

@@ -1,0 +1,26 @@
+use Rattle.std.proofs.Common.{sym, ap, subst, ◌∙◌}
+use Rattle.mp_file.specs.Shown.{file_of}
+use Rattle.mp_decl.specs.Walks.{Is}
+use Rattle.mp_decl.proofs.WalkLaws.{declared_fault-stops, declared_fault-went, walk_fault-went, names-points_of, finds_on}
+use Rattle.mp_decl.proofs.file.declare.Goals as goal
+
+pub returns-clause-names : goal.returns-clause-names
+returns-clause-names c =
+    let w = walk_fault-went (file_of c.args.file.now) c.walk.new.known (rw (c.new-known.ensures, c.as_slice-statements.ensures) at c.in_ok-walk.ensures) in
+    ap (λ k. k.names) (sym w.1) ∙ names-points_of (file_of c.args.file.now)
+
+pub returns-clause-fault : goal.returns-clause-fault
+returns-clause-fault c =
+    declared_fault-went c.args.end (file_of c.args.file.now) c.walk.new.known (rw (c.new-known.ensures, c.as_slice-statements.ensures) at c.in_ok-walk.ensures)
+    ∙ (rw c.as_slice-statements.ensures at c.in_ok-test_whole.ensures)
+
+pub returns-in_err-walk-clause-fault : goal.returns-in_err-walk-clause-fault
+returns-in_err-walk-clause-fault c =
+    finds_on c.from_residual.result c.in_err-walk.field-0.0 _ c.from_residual.ensures.1
+    (declared_fault-stops c.args.end (file_of c.args.file.now) c.in_err-walk.field-0.0 (rw (c.new-known.ensures, c.as_slice-statements.ensures) at c.in_err-walk.ensures))
+
+pub returns-in_err-test_whole-clause-fault : goal.returns-in_err-test_whole-clause-fault
+returns-in_err-test_whole-clause-fault c =
+    let went = declared_fault-went c.args.end (file_of c.args.file.now) c.walk.new.known (rw (c.new-known.ensures, c.as_slice-statements.ensures) at c.in_ok-walk.ensures) in
+    finds_on c.from_residual-in_err-test_whole.result c.in_err-test_whole.field-0.0 _ c.from_residual-in_err-test_whole.ensures.1
+    (subst (Is c.in_err-test_whole.field-0.0) (sym went) (rw c.as_slice-statements.ensures at c.in_err-test_whole.ensures))
