@@ -1,3 +1,4 @@
 pub mod Places
+pub mod Ratios
 pub mod Steps
 pub mod Headlines

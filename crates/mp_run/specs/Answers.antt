@@ -47,9 +47,10 @@ ReadShows name before now (o.ReadFault count) = Rose before.faults now.faults ×
 ReadShows name before now o.NoMemory = Unit {0}
 ReadShows name before now _ = ⊥
 
--- a refusal of a text is of its tokens, its grammar or its numbers
+-- a refusal of a text is of its tokens, its grammar, what it declares or its numbers
 abbrev pub TextShows : Outcome → Type 0
 TextShows (o.Text kind at token) = Unit {0}
+TextShows (o.Declared kind name at) = Unit {0}
 TextShows (o.Data kind at first second) = Unit {0}
 TextShows o.NoMemory = Unit {0}
 TextShows _ = ⊥

@@ -12,6 +12,8 @@ use Rattle.mp_syntax.specs.Syntax.{Statement}
 use Rattle.mp_syntax.specs.Literals.{far_literal}
 use Rattle.mp_syntax.specs.Spelling.{spelled_file}
 use Rattle.mp_reading.specs.Reading.{file_read}
+use Rattle.mp_declared.specs.Declared as declared
+use Rattle.mp_declared.specs.Heights.{greatest_height}
 use Rattle.mp_outside.specs.Outside.{Listing, lookup}
 
 -- an outcome, and the bytes written with it
@@ -92,10 +94,23 @@ abbrev pub literal_step : Option ℕ → Step (Unit {0})
 literal_step None = Ok tt
 literal_step (Some at) = Err (o.Data d.Literal at (whole 0) (whole 37))
 
+-- the file declares its model, or has a first fault
+abbrev pub declared_step : Option declared.Fault → Step (Unit {0})
+declared_step None = Ok tt
+declared_step (Some f) = Err (o.Declared f.kind f.name f.at)
+
+-- no side of an equation is higher than 500
+abbrev pub deep_step : ℕ → Step (Unit {0})
+deep_step tall = if nat_le tall 500 then Ok tt else Err (o.Data d.TooDeep 0 (whole tall) (whole 500))
+
+-- the canonical text of a file that declares its model, with no number and no side too large
+abbrev pub tested : ℕ → List Tok → List Statement → Step (List ℕ)
+tested end ts file =
+    and_then (declared_step (declared.declared_fault end file)) (λ _. and_then (literal_step (far_literal ts)) (λ _. and_then (deep_step (greatest_height file)) (λ _. Ok (spelled_file file))))
+
 -- the canonical text of what the tokens read as
 abbrev pub tokens_give : ℕ → List Tok → Step (List ℕ)
-tokens_give end ts =
-    and_then (file_step end (file_read ts)) (λ file. and_then (literal_step (far_literal ts)) (λ _. Ok (spelled_file file)))
+tokens_give end ts = and_then (file_step end (file_read ts)) (tested end ts)
 
 abbrev pub text_gives : List ℕ → Step (List ℕ)
 text_gives text = and_then (token_step (tokens text)) (tokens_give (length text))

@@ -4,13 +4,16 @@ ghost use Rattle.mp_syntax.specs.Tokens.{tokens};
 ghost use Rattle.mp_syntax.specs.Literals.{far_literal};
 ghost use Rattle.mp_syntax.specs.Spelling.{spelled_file};
 ghost use Rattle.mp_reading.specs.Reading.{file_read};
+ghost use Rattle.mp_declared.specs.Declared.{declared_fault};
+ghost use Rattle.mp_declared.specs.Heights.{greatest_height};
 ghost use Rattle.mp_file.specs.Shown.{file_of};
 ghost use Rattle.mp_lex.specs.Shown.{tok_of};
 ghost use Rattle.mp_tell.specs.Lines.{HasReduced};
-ghost use Rattle.mp_run.specs.Verdict.{token_step, file_step, wrong_token, literal_step, text_gives};
+ghost use Rattle.mp_run.specs.Verdict.{token_step, file_step, wrong_token, declared_step, literal_step, deep_step, text_gives};
 ghost use Rattle.mp_run.specs.Answers.{Says, TextShows};
 
 use mp_base::{Bytes, DataKind, Label, Outcome, Ratio, TextKind};
+use mp_decl::DeclFault;
 use mp_file::File;
 use mp_gram::ParseFault;
 use mp_lex::{LexFault, Token, Tokens};
@@ -24,8 +27,11 @@ pub fn transformed(alloc: Global, text: &[u8]) -> Result<Bytes, Outcome>
     ensures reduced { MatchResult result (λ _. Unit {0}) HasReduced }
 {
     let tokens = lexed(alloc, text)?;
-    let file = parsed(alloc, &tokens, text.len() as u32)?;
+    let end = text.len() as u32;
+    let file = parsed(alloc, &tokens, end)?;
+    declared(alloc, &file, end)?;
     in_range(&tokens)?;
+    not_deep(&file)?;
     printed(alloc, &file)
 }
 
@@ -94,6 +100,19 @@ fn stops_at(token: &Token) -> Outcome
     }
 }
 
+// The file declares its model. The text ends at `end`.
+fn declared<'t>(alloc: Global, file: &File<'t>, end: u32) -> Result<(), Outcome>
+    ensures says { Says (λ u. u) (declared_step (declared_fault end (file_of file.now))) result }
+    ensures shows { MatchResult result (λ _. Unit {0}) TextShows }
+    ensures reduced { MatchResult result (λ _. Unit {0}) HasReduced }
+{
+    match mp_decl::declare(alloc, file, end) {
+        Ok(_names) => Ok(()),
+        Err(DeclFault::Declared { kind, name, at }) => Err(Outcome::Declared { kind, name, at }),
+        Err(DeclFault::NoMemory) => Err(Outcome::NoMemory),
+    }
+}
+
 // No number is above 10^37.
 fn in_range(tokens: &Tokens) -> Result<(), Outcome>
     ensures says { Says (λ u. u) (literal_step (far_literal tokens.now)) result }
@@ -109,6 +128,27 @@ fn in_range(tokens: &Tokens) -> Result<(), Outcome>
             second: Ratio { n: 37, d: 1 },
         }),
     }
+}
+
+// No side of an equation is higher than 500.
+fn not_deep(file: &File) -> Result<(), Outcome>
+    ensures says { Says (λ u. u) (deep_step (greatest_height (file_of file.now))) result }
+    ensures shows { MatchResult result (λ _. Unit {0}) TextShows }
+    ensures reduced { MatchResult result (λ _. Unit {0}) HasReduced }
+{
+    let tall = mp_decl::greatest_height(file);
+    if tall <= 500 {
+        return Ok(());
+    }
+    Err(Outcome::Data {
+        kind: DataKind::TooDeep,
+        at: 0,
+        first: Ratio {
+            n: tall as i128,
+            d: 1,
+        },
+        second: Ratio { n: 500, d: 1 },
+    })
 }
 
 // The canonical spelling of the file.
