@@ -77,12 +77,11 @@ fn texts_are_transformed_or_refused(rt: HostRuntime) -> Result<(), Fail> {
             b"".as_slice(),
         ),
         (
-            b"var x, y z;\nmodel; x(0)-007*y(+01) ; y=z ;end ;model;z=00;end;var w;",
+            b"var x, y z;\nvar w;model; x(0)-007*y(+01) ; y=z ;z=00;w=x;end ;",
             0,
-            b"var x y z w;\nmodel;\nx-7*y(+1) = 0;\ny = z;\nz = 0;\nend;\n",
+            b"var x y z w;\nmodel;\nx-7*y(+1) = 0;\ny = z;\nz = 0;\nw = x;\nend;\n",
             b"",
         ),
-        (b"", 0, b"", b""),
         (
             b"var @",
             5,
@@ -112,6 +111,91 @@ fn texts_are_transformed_or_refused(rt: HostRuntime) -> Result<(), Fail> {
         let came = came_of::<Brand>(rt.alloc(), TRANSFORM, &plain(*text), Blank::new(1))?;
         assert_eq!(rt; came.outcome.code(), *code);
         assert_eq!(rt; came.out.taken(), *out);
+        assert_eq!(rt; came.err.taken(), *err);
+    }
+    Ok(())
+}
+
+// The fault lines of texts that don't declare their model: the first fault of the points, else of the whole.
+#[test]
+fn the_first_fault_is_named(rt: HostRuntime) -> Result<(), Fail> {
+    let rows = [
+        (
+            b"var x x; model; x = 1; end;".as_slice(),
+            b"modpath: 6 Declared kind=Twice name=x at=6\n".as_slice(),
+        ),
+        (
+            b"var x; model; x = 1; end; model; end;",
+            b"modpath: 6 Declared kind=BlockTwice name=model at=26\n",
+        ),
+        (
+            b"model; x(-2) = 1; end; var x;",
+            b"modpath: 6 Declared kind=Undeclared name=x at=7\n",
+        ),
+        (
+            b"var x; model; x = x(-2); end; var x;",
+            b"modpath: 6 Declared kind=LongShift name=x at=18\n",
+        ),
+        (
+            b"var x; model; x(+01) = y; end;",
+            b"modpath: 6 Declared kind=Undeclared name=y at=23\n",
+        ),
+        (b"", b"modpath: 6 Declared kind=NoModel name= at=0\n"),
+        (b"var x;", b"modpath: 6 Declared kind=NoModel name= at=7\n"),
+        (
+            b"model; end;",
+            b"modpath: 6 Declared kind=Empty name= at=12\n",
+        ),
+        (
+            b"var x; model; end;",
+            b"modpath: 6 Declared kind=EquationCount name= at=19\n",
+        ),
+        (
+            b"var x y; model; x = 1; end;",
+            b"modpath: 6 Declared kind=EquationCount name= at=28\n",
+        ),
+        (
+            b"var x; model; x = 1; 10000000000000000000000000000000000001; end;",
+            b"modpath: 6 Declared kind=EquationCount name= at=66\n",
+        ),
+    ];
+    for (text, err) in rows.iter() {
+        let came = came_of::<Brand>(rt.alloc(), TRANSFORM, &plain(*text), Blank::new(1))?;
+        assert_eq!(rt; came.outcome.code(), 6);
+        assert_eq!(rt; came.out.taken(), b"".as_slice());
+        assert_eq!(rt; came.err.taken(), *err);
+    }
+    Ok(())
+}
+
+// An equation whose right side is a sum of this many terms.
+fn sum_of(alloc: Global, terms: u32) -> Result<Vec<u8>, NoMemory> {
+    let mut text = Vec::new(alloc);
+    text.extend_from_slice(b"var x; model; x = x")?;
+    for _ in 1..terms {
+        text.extend_from_slice(b"+x")?;
+    }
+    text.extend_from_slice(b"; end;")?;
+    Ok(text)
+}
+
+#[test]
+fn a_side_is_500_nodes_high_at_most(rt: HostRuntime) -> Result<(), Fail> {
+    for (terms, code, err) in [
+        (500, 0, b"".as_slice()),
+        (
+            501,
+            7,
+            b"modpath: 7 Data kind=TooDeep at=0 first=501 second=500\n",
+        ),
+    ]
+    .iter()
+    {
+        let text = sum_of(rt.alloc(), *terms)?;
+        let mut row = plain(text.as_slice());
+        row.out_room = 2048;
+        let came = came_of::<Brand>(rt.alloc(), TRANSFORM, &row, Blank::new(1))?;
+        assert_eq!(rt; came.outcome.code(), *code);
         assert_eq!(rt; came.err.taken(), *err);
     }
     Ok(())
@@ -180,7 +264,10 @@ fn a_file_may_have_8388608_bytes(rt: HostRuntime) -> Result<(), Fail> {
         &plain(longest.as_slice()),
         Blank::new(1),
     )?;
-    assert_eq!(rt; came.outcome.code(), 0);
+    assert_eq!(rt;
+        came.err.taken(),
+        b"modpath: 6 Declared kind=NoModel name= at=8388609\n".as_slice()
+    );
     let long = vec![in rt.alloc(); b' '; 8_388_609]?;
     let came = came_of::<Brand>(
         rt.alloc(),
