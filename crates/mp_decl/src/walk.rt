@@ -10,10 +10,7 @@ use crate::fault::DeclFault;
 use crate::known::Known;
 use mp_file::{Atom, Factor, Item, Named, Statement, Term};
 
-pub(crate) fn walk<'t>(
-    known: &mut Known<'t>,
-    statements: &[Statement<'t>],
-) -> Result<(), DeclFault>
+pub(crate) fn walk<'t>(known: &mut Known<'t>, statements: &[Statement<'t>]) -> Result<(), DeclFault>
     ensures { Walks result known.old known.new (flat_map points_in (map statement_of statements.now)) }
 {
     'turns: for statement in statements {
