@@ -3,7 +3,7 @@ use Rattle.std.specs.Prelude.{ℕ, ◌<◌, ◌≤◌, ◌^◌, List, length, Op
 use Rattle.mp_syntax.specs.declared.terminal.Sign.{Sign}
 use Rattle.mp_syntax.specs.declared.terminal.Sign.TheVariants as sign
 use Rattle.mp_syntax.specs.Literals.{number_of}
-use Rattle.mp_syntax.specs.Syntax.{Shift, Expr, Number, Variable, Plus, Minus, Times}
+use Rattle.mp_syntax.specs.Syntax.{Shift, Expr, Number, Variable, Plus, Minus, Times, Item}
 use Rattle.mp_semantics.specs.Term as m
 use Rattle.mp_model.specs.ModelOf.{place_of}
 
@@ -19,6 +19,14 @@ Fits names (Variable name shift) = (place_of names name.name < length names) × 
 Fits names (Plus a at b) = Fits names a × Fits names b
 Fits names (Minus a at b) = Fits names a × Fits names b
 Fits names (Times a at b) = Fits names a × Fits names b
+
+abbrev pub RightFits : List (List ℕ) → Option Expr → Type 0
+RightFits names None = Unit {0}
+RightFits names (Some e) = Fits names e
+
+-- both sides of an equation fit
+abbrev pub SidesFit : List (List ℕ) → Item → Type 0
+SidesFit names x = Fits names x.left × RightFits names x.right
 
 -- a sum with one more term, which is added or taken off
 abbrev pub joined : Sign → m.Term → m.Term → m.Term

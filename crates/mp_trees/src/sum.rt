@@ -10,7 +10,7 @@ ghost use Rattle.mp_trees.specs.Fits.{Fits, joined};
 use crate::atom::atom_tree;
 use mp_base::NoMemory;
 use mp_decl::Names;
-use mp_expr::{boxed, Tree};
+use mp_expr::{Tree, boxed};
 use mp_file::{Factor, Term};
 use mp_syntax::Sign;
 use std::alloc::Global;
