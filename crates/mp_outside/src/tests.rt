@@ -6,7 +6,8 @@ use mp_base::Bytes;
 use std::fs;
 use std::test::Fail;
 
-const SAVED: &str = "/tmp/modpath_real_files_test.mod";
+// Saved in the folder that the tests run in.
+const SAVED: &str = "real_files_test.mod";
 
 #[test]
 fn listed_calls_fail(rt: HostRuntime) -> Result<(), Fail> {
