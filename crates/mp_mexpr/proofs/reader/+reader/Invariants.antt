@@ -1,0 +1,68 @@
+use Rattle.std.proofs.Common.{◌≡◌, ◌+◌, ◌*◌, length}
+use Rattle.mp_mexpr.specs.declared.token.Mark.TheVariants as m
+use Rattle.mp_mexpr.specs.Tokens.{toks}
+use Rattle.mp_mexpr.specs.Grammar.{values, past, operator_at, most, repeated, applied, indexed, extended, level_at, inside_at}
+use Rattle.mp_mexpr.proofs.reader.+reader.Given as goal
+
+abbrev pub decreases-inside_of : goal.decreases-inside_of
+decreases-inside_of l = 1000 * l.room
+
+abbrev pub decreases-more_elements : goal.decreases-more_elements
+decreases-more_elements l = 1000 * l.room + 1
+
+abbrev pub decreases-place_of : goal.decreases-place_of
+decreases-place_of l = 1000 * l.room + 1
+
+abbrev pub decreases-elements_of : goal.decreases-elements_of
+decreases-elements_of l = 1000 * l.room + 2
+
+abbrev pub decreases-array_of : goal.decreases-array_of
+decreases-array_of l = 1000 * l.room + 3
+
+abbrev pub decreases-paren_of : goal.decreases-paren_of
+decreases-paren_of l = 1000 * l.room + 3
+
+abbrev pub decreases-primary_of : goal.decreases-primary_of
+decreases-primary_of l = 1000 * l.room + 4
+
+abbrev pub decreases-places_of : goal.decreases-places_of
+decreases-places_of l = 1000 * l.room + 4
+
+abbrev pub decreases-index_of : goal.decreases-index_of
+decreases-index_of l = 1000 * l.room + 5
+
+abbrev pub decreases-unary_of : goal.decreases-unary_of
+decreases-unary_of l = 1000 * l.room + 6
+
+abbrev pub decreases-level_of : goal.decreases-level_of
+decreases-level_of l = 1000 * l.room + 7 + 2 * l.level
+
+abbrev pub decreases-chain_of : goal.decreases-chain_of
+decreases-chain_of l = 1000 * l.room + 8 + 2 * l.level
+
+abbrev pub invariant-more_elements-turns : goal.invariant-more_elements-turns
+invariant-more_elements-turns l =
+    let v = values l.env in
+    let step = extended v (inside_at v l.room) in
+    repeated l.left (past m.Comma) step l.found (toks l.rest) ≡ repeated (length (toks l.tokens)) (past m.Comma) step l.initial.found (toks l.tokens)
+
+abbrev pub decreases-more_elements-turns : goal.decreases-more_elements-turns
+decreases-more_elements-turns l = l.left
+
+abbrev pub invariant-places_of-turns : goal.invariant-places_of-turns
+invariant-places_of-turns l =
+    let v = values l.env in
+    let step = indexed v (inside_at v l.room) in
+    repeated l.left (past m.OpenBracket) step l.found (toks l.rest) ≡ repeated (length (toks l.tokens)) (past m.OpenBracket) step l.initial.found (toks l.tokens)
+
+abbrev pub decreases-places_of-turns : goal.decreases-places_of-turns
+decreases-places_of-turns l = l.left
+
+abbrev pub invariant-chain_of-turns : goal.invariant-chain_of-turns
+invariant-chain_of-turns l =
+    let v = values l.env in
+    let step = applied v (level_at v (inside_at v l.room) l.level) in
+    repeated l.left (operator_at l.level) step l.found (toks l.rest) ≡ repeated (most l.level (toks l.tokens)) (operator_at l.level) step l.initial.found (toks l.tokens)
+
+abbrev pub decreases-chain_of-turns : goal.decreases-chain_of-turns
+decreases-chain_of-turns l = l.left
