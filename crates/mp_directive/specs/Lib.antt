@@ -1,0 +1,5 @@
+pub mod Results
+pub mod Lines
+pub mod Directives
+pub mod Tree
+pub mod Groups

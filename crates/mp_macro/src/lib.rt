@@ -1,0 +1,2 @@
+//! Expansion of macro files.
+#![tactic(auto)]
