@@ -1,6 +1,15 @@
 //! The lines of a macro file: directives, and the tree of the groups in which they stand.
 #![tactic(auto)]
 
+pub mod content;
+pub mod fault;
+pub mod groups;
 pub mod keyword;
+pub mod scan;
+pub mod tree;
 
+pub use content::{Condition, Statement};
+pub use fault::TreeFault;
+pub use groups::tree_of;
 pub use keyword::Keyword;
+pub use tree::{Branch, Head, Node};

@@ -1,0 +1,272 @@
+// How lines stand in groups.
+ghost use Rattle.std.specs.Prelude.{◌≡◌, ◌≤◌, length, Err};
+
+use crate::content::{Condition, Content, Statement, content_of};
+use crate::fault::{LineFault, TreeFault};
+use crate::scan::first_line;
+use crate::tree::{Branch, Head, Node};
+use mp_base::MacroKind;
+use sqlite_items::Items;
+use std::alloc::Global;
+
+// How many groups may be open.
+const MOST_OPEN: usize = 100;
+
+// A group that is open, with the nodes before it in the body around it and the line that opened it: a choice with its
+// finished branches and the head of the one that is being read, or a loop.
+#[derive(Drop)]
+pub(crate) enum Group<'t> {
+    Choice {
+        outer: Items<Node<'t>>,
+        opener: u32,
+        finished: Items<Branch<'t>>,
+        line: u32,
+        condition: Condition<'t>,
+    },
+    Loop {
+        outer: Items<Node<'t>>,
+        head: Head<'t>,
+    },
+}
+
+// The groups that are open, the innermost last, and the nodes read in its body.
+#[derive(Drop)]
+pub(crate) struct Reader<'t> {
+    alloc: Global,
+    groups: Items<Group<'t>>,
+    nodes: Items<Node<'t>>,
+}
+
+impl<'t> Reader<'t> {
+    fn new(alloc: Global) -> Reader<'t> {
+        Reader {
+            alloc,
+            groups: Items::new(alloc),
+            nodes: Items::new(alloc),
+        }
+    }
+
+    // One node more.
+    fn with(self, node: Node<'t>) -> Result<Reader<'t>, LineFault> {
+        let Reader {
+            alloc,
+            groups,
+            mut nodes,
+        } = self;
+        nodes.push(node)?;
+        Ok(Reader {
+            alloc,
+            groups,
+            nodes,
+        })
+    }
+
+    // A choice opens.
+    fn choice_opened(self, line: u32, condition: Condition<'t>) -> Result<Reader<'t>, LineFault> {
+        let Reader {
+            alloc,
+            mut groups,
+            nodes,
+        } = self;
+        if groups.len() >= MOST_OPEN {
+            return refused(MacroKind::NestDeep);
+        }
+        groups.push(Group::Choice {
+            outer: nodes,
+            opener: line,
+            finished: Items::new(alloc),
+            line,
+            condition,
+        })?;
+        Ok(Reader {
+            alloc,
+            groups,
+            nodes: Items::new(alloc),
+        })
+    }
+
+    // A loop opens.
+    fn loop_opened(self, head: Head<'t>) -> Result<Reader<'t>, LineFault> {
+        let Reader {
+            alloc,
+            mut groups,
+            nodes,
+        } = self;
+        if groups.len() >= MOST_OPEN {
+            return refused(MacroKind::NestDeep);
+        }
+        groups.push(Group::Loop { outer: nodes, head })?;
+        Ok(Reader {
+            alloc,
+            groups,
+            nodes: Items::new(alloc),
+        })
+    }
+
+    // A further branch: in a choice, and not after its `@#else`.
+    fn further(self, line: u32, condition: Condition<'t>) -> Result<Reader<'t>, LineFault> {
+        let Reader {
+            alloc,
+            mut groups,
+            nodes,
+        } = self;
+        let Some(Group::Choice {
+            outer,
+            opener,
+            finished,
+            line: head,
+            condition: was,
+        }) = groups.pop() else {
+            return refused(MacroKind::Unbalanced);
+        };
+        if is_otherwise(was) {
+            return refused(MacroKind::Unbalanced);
+        }
+        let finished = with_branch(finished, head, was, nodes)?;
+        groups.push(Group::Choice {
+            outer,
+            opener,
+            finished,
+            line,
+            condition,
+        })?;
+        Ok(Reader {
+            alloc,
+            groups,
+            nodes: Items::new(alloc),
+        })
+    }
+
+    // The end of a choice.
+    fn choice_ended(self) -> Result<Reader<'t>, LineFault> {
+        let Reader {
+            alloc,
+            mut groups,
+            nodes,
+        } = self;
+        let Some(Group::Choice {
+            outer,
+            finished,
+            line,
+            condition,
+            ..
+        }) = groups.pop() else {
+            return refused(MacroKind::Unbalanced);
+        };
+        let branches = with_branch(finished, line, condition, nodes)?;
+        let mut nodes = outer;
+        nodes.push(Node::Choice { branches })?;
+        Ok(Reader {
+            alloc,
+            groups,
+            nodes,
+        })
+    }
+
+    // The end of a loop.
+    fn loop_ended(self) -> Result<Reader<'t>, LineFault> {
+        let Reader {
+            alloc,
+            mut groups,
+            nodes,
+        } = self;
+        let Some(Group::Loop { outer, head }) = groups.pop() else {
+            return refused(MacroKind::Unbalanced);
+        };
+        let body = nodes;
+        let mut nodes = outer;
+        nodes.push(Node::Loop { head, body })?;
+        Ok(Reader {
+            alloc,
+            groups,
+            nodes,
+        })
+    }
+
+    // What is read after a line more.
+    fn after(self, line: u32, content: Content<'t>) -> Result<Reader<'t>, LineFault> {
+        match content {
+            Content::Alone(statement) => self.with(Node::Simple { line, statement }),
+            Content::Include(expr) => self.with(Node::Included { line, expr }),
+            Content::If(condition) => self.choice_opened(line, condition),
+            Content::Further(condition) => self.further(line, condition),
+            Content::EndIf => self.choice_ended(),
+            Content::For { name, array } => self.loop_opened(Head { line, name, array }),
+            Content::EndFor => self.loop_ended(),
+            Content::IllFormed => refused(MacroKind::BadDirective),
+        }
+    }
+
+    // No group may be open at the end.
+    fn whole(self) -> Result<Items<Node<'t>>, TreeFault> {
+        let Reader { groups, nodes, .. } = self;
+        match groups.as_slice().first() {
+            None => Ok(nodes),
+            Some(outermost) => Err(TreeFault::Refused {
+                kind: MacroKind::Unbalanced,
+                line: opener_of(outermost),
+            }),
+        }
+    }
+}
+
+fn refused<T>(kind: MacroKind) -> Result<T, LineFault>
+    ensures { result ≡ Err (LineFault.Refused kind) }
+{
+    Err(LineFault::Refused { kind })
+}
+
+fn is_otherwise(condition: Condition) -> bool {
+    match condition {
+        Condition::Otherwise => true,
+        _ => false,
+    }
+}
+
+fn with_branch<'t>(
+    finished: Items<Branch<'t>>,
+    line: u32,
+    condition: Condition<'t>,
+    body: Items<Node<'t>>,
+) -> Result<Items<Branch<'t>>, LineFault> {
+    let mut branches = finished;
+    branches.push(Branch::When {
+        line,
+        condition,
+        body,
+    })?;
+    Ok(branches)
+}
+
+fn opener_of(group: &Group) -> u32 {
+    match group {
+        Group::Choice { opener, .. } => *opener,
+        Group::Loop { head, .. } => head.line,
+    }
+}
+
+fn placed<T>(answer: Result<T, LineFault>, line: u32) -> Result<T, TreeFault> {
+    match answer {
+        Ok(x) => Ok(x),
+        Err(LineFault::Refused { kind }) => Err(TreeFault::Refused { kind, line }),
+        Err(LineFault::NoMemory) => Err(TreeFault::NoMemory),
+    }
+}
+
+/// The tree of a file's lines, or the first line that is at fault: BadDirective, Unbalanced or NestDeep. A missing end
+/// is placed at the opener of the outermost open group and comes after all lines (Dynare manual, "Macro processing
+/// language"; at most 100 groups are open, which is modpath's own).
+pub fn tree_of<'t>(alloc: Global, text: &'t [u8]) -> Result<Items<Node<'t>>, TreeFault>
+    requires { length text.now ≤ 8388608 }
+{
+    let mut reader = Reader::new(alloc);
+    let (_, mut rest) = text.split_at(0);
+    let mut line: u32 = 1;
+    'lines: while !rest.is_empty() {
+        let (first, more) = first_line(rest);
+        reader = placed(reader.after(line, content_of(first)), line)?;
+        rest = more;
+        line += 1;
+    }
+    reader.whole()
+}
