@@ -123,11 +123,24 @@ content_by None rest = IllFormed
 abbrev pub directive_of : List ℕ → Content
 directive_of bs = let c = trimmed (code bs) in content_by (keyword_of (word c)) (after_word c)
 
--- `@#` begins here
-abbrev pub begins_directive : List ℕ → Bool
-begins_directive bs = bytes_eq (take 2 bs) (codes "@#")
+-- what follows this byte, where it begins
+abbrev pub past : ℕ → List ℕ → Option (List ℕ)
+past c [] = None
+past c (b ∷ bs) = if b == c then Some bs else None
+
+-- what follows `@#`, where it begins
+abbrev pub past_mark : List ℕ → Option (List ℕ)
+past_mark bs = by (past 64 bs)
+  where
+    by : Option (List ℕ) → Option (List ℕ)
+    by None = None
+    by (Some more) = past 35 more
+
+-- by what follows `@#`
+abbrev pub content_past : List ℕ → Option (List ℕ) → Content
+content_past line None = Alone (Plain line)
+content_past line (Some rest) = directive_of rest
 
 -- a line whose first bytes that are no blanks are `@#` is a directive; every other line is plain
 abbrev pub content_of : List ℕ → Content
-content_of line =
-    if begins_directive (trimmed line) then directive_of (drop 2 (trimmed line)) else Alone (Plain line)
+content_of line = content_past line (past_mark (trimmed line))

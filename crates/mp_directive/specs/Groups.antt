@@ -1,5 +1,5 @@
 -- How lines stand in groups: `@#if` to `@#endif` and `@#for` to `@#endfor`, inside one another.
-use Rattle.std.specs.Prelude.{ℕ, ◌+◌, List, [], ◌∷◌, length, nat_lt, if◌then◌else◌, Result, Ok, Err}
+use Rattle.std.specs.Prelude.{ℕ, ◌+◌, List, [], ◌∷◌, length, Bool, true, false, nat_lt, if◌then◌else◌, Result, Ok, Err}
 use Rattle.mp_base.specs.declared.kinds.MacroKind.{MacroKind}
 use Rattle.mp_base.specs.declared.kinds.MacroKind.TheVariants.{BadDirective, Unbalanced, NestDeep}
 use Rattle.mp_directive.specs.Results.{◌>>=◌}
@@ -34,11 +34,15 @@ with r n = record { groups = r.groups; nodes = with_node r.nodes n }
 abbrev pub opened : Group → List Group → Result Reading MacroKind
 opened g gs = if nat_lt (length gs) 100 then Ok (record { groups = g ∷ gs; nodes = Done }) else Err NestDeep
 
+-- the branch of an `@#else`
+abbrev pub is_otherwise : Condition → Bool
+is_otherwise Otherwise = true
+is_otherwise _ = false
+
 -- a further branch: in a choice, and not after its `@#else`
 abbrev pub further : ℕ → Condition → Nodes → List Group → Result Reading MacroKind
-further line c nodes (OpenChoice outer opener finished l Otherwise ∷ gs) = Err Unbalanced
 further line c nodes (OpenChoice outer opener finished l was ∷ gs) =
-    Ok (record { groups = OpenChoice outer opener (with_branch finished l was nodes) line c ∷ gs; nodes = Done })
+    if is_otherwise was then Err Unbalanced else Ok (record { groups = OpenChoice outer opener (with_branch finished l was nodes) line c ∷ gs; nodes = Done })
 further line c nodes _ = Err Unbalanced
 
 -- the end of a choice

@@ -3,3 +3,5 @@ pub mod Lines
 pub mod Directives
 pub mod Tree
 pub mod Groups
+pub mod Shown
+pub mod Gives

@@ -1,8 +1,10 @@
 // What a line is.
 ghost use Rattle.std.specs.Prelude.{◌≡◌};
+ghost use Rattle.mp_directive.specs.Directives.{If, Defined, Undefined, alone, named, define_of, for_of, content_by, directive_of, content_of};
+ghost use Rattle.mp_directive.specs.Shown.{shown};
 
 use crate::keyword::{Keyword, keyword_of};
-use crate::scan::{after_mark, code, is_name, split_word, trimmed};
+use crate::scan::{code, is_name, past_mark, split_word, trimmed};
 
 /// When the lines of a branch are taken: an expression holds, a name has a value, a name has none, or no earlier branch
 /// is taken.
@@ -42,15 +44,19 @@ pub enum Content<'t> {
 
 /// What a line is: a directive where its first bytes that are no blanks are `@#`, else plain (Dynare manual, "Macro
 /// processing language").
-pub fn content_of<'t>(line: &'t [u8]) -> Content<'t> {
-    match after_mark(trimmed(line)) {
+pub fn content_of<'t>(line: &'t [u8]) -> Content<'t>
+    ensures { shown result ≡ content_of line.now }
+{
+    match past_mark(trimmed(line)) {
         Some(rest) => directive_of(rest),
         None => Content::Alone(Statement::Plain(line)),
     }
 }
 
 // What stands after `@#`.
-fn directive_of<'t>(bytes: &'t [u8]) -> Content<'t> {
+fn directive_of<'t>(bytes: &'t [u8]) -> Content<'t>
+    ensures { shown result ≡ directive_of bytes.now }
+{
     let (word, rest) = split_word(trimmed(code(bytes)));
     match keyword_of(word) {
         Some(keyword) => content_by(keyword, rest),
@@ -59,7 +65,9 @@ fn directive_of<'t>(bytes: &'t [u8]) -> Content<'t> {
 }
 
 // By the word of the directive.
-fn content_by<'t>(keyword: Keyword, rest: &'t [u8]) -> Content<'t> {
+fn content_by<'t>(keyword: Keyword, rest: &'t [u8]) -> Content<'t>
+    ensures { shown result ≡ content_by (Some keyword) rest.now }
+{
     match keyword {
         Keyword::Define => define_of(rest),
         Keyword::If => Content::If(Condition::Holds(rest)),
@@ -77,7 +85,9 @@ fn content_by<'t>(keyword: Keyword, rest: &'t [u8]) -> Content<'t> {
 }
 
 // Nothing may follow.
-fn alone<'t>(content: Content<'t>, rest: &[u8]) -> Content<'t> {
+fn alone<'t>(content: Content<'t>, rest: &[u8]) -> Content<'t>
+    ensures { shown result ≡ alone (shown content.entry) rest.now }
+{
     if rest.is_empty() {
         content
     } else {
@@ -86,7 +96,9 @@ fn alone<'t>(content: Content<'t>, rest: &[u8]) -> Content<'t> {
 }
 
 // A name, and nothing or `=` and an expression.
-fn define_of<'t>(rest: &'t [u8]) -> Content<'t> {
+fn define_of<'t>(rest: &'t [u8]) -> Content<'t>
+    ensures { shown result ≡ named define_of rest.now }
+{
     let (name, rest) = split_word(rest);
     if !is_name(name) {
         return Content::IllFormed;
@@ -103,7 +115,9 @@ fn define_of<'t>(rest: &'t [u8]) -> Content<'t> {
     })
 }
 
-fn if_defined<'t>(rest: &'t [u8]) -> Content<'t> {
+fn if_defined<'t>(rest: &'t [u8]) -> Content<'t>
+    ensures { shown result ≡ named (λ name. alone (If (Defined name))) rest.now }
+{
     let (name, rest) = split_word(rest);
     if is_name(name) {
         return alone(Content::If(Condition::Defined(name)), rest);
@@ -111,7 +125,9 @@ fn if_defined<'t>(rest: &'t [u8]) -> Content<'t> {
     Content::IllFormed
 }
 
-fn if_undefined<'t>(rest: &'t [u8]) -> Content<'t> {
+fn if_undefined<'t>(rest: &'t [u8]) -> Content<'t>
+    ensures { shown result ≡ named (λ name. alone (If (Undefined name))) rest.now }
+{
     let (name, rest) = split_word(rest);
     if is_name(name) {
         return alone(Content::If(Condition::Undefined(name)), rest);
@@ -120,7 +136,9 @@ fn if_undefined<'t>(rest: &'t [u8]) -> Content<'t> {
 }
 
 // A name, `in` and an expression.
-fn for_of<'t>(rest: &'t [u8]) -> Content<'t> {
+fn for_of<'t>(rest: &'t [u8]) -> Content<'t>
+    ensures { shown result ≡ named for_of rest.now }
+{
     let (name, rest) = split_word(rest);
     if !is_name(name) {
         return Content::IllFormed;

@@ -1,5 +1,12 @@
 // How lines stand in groups.
-ghost use Rattle.std.specs.Prelude.{◌≡◌, ◌≤◌, length, Err};
+ghost use Rattle.std.specs.Prelude.{◌≡◌, ◌≤◌, ◌+◌, length, Err, IfOk, OnOk, reverse, map};
+ghost use Rattle.mp_directive.specs.Lines.{lines};
+ghost use Rattle.mp_directive.specs.Tree.{nodes_weight, with_branch};
+ghost use Rattle.mp_directive.specs.Groups.{nothing_read, is_otherwise, further, choice_ended, loop_ended, after_line, opener, whole, groups};
+ghost use Rattle.mp_directive.specs.Directives.{If, For};
+ghost use Rattle.mp_directive.specs.Groups as g;
+ghost use Rattle.mp_directive.specs.Shown.{condition_of, shown, node_of, nodes_of, branches_of, group_of};
+ghost use Rattle.mp_directive.specs.Gives.{reading_of, Gives, GivesPlaced, Placed};
 
 use crate::content::{Condition, Content, Statement, content_of};
 use crate::fault::{LineFault, TreeFault};
@@ -38,7 +45,9 @@ pub(crate) struct Reader<'t> {
 }
 
 impl<'t> Reader<'t> {
-    fn new(alloc: Global) -> Reader<'t> {
+    fn new(alloc: Global) -> Reader<'t>
+        ensures { reading_of result ≡ nothing_read }
+    {
         Reader {
             alloc,
             groups: Items::new(alloc),
@@ -47,7 +56,9 @@ impl<'t> Reader<'t> {
     }
 
     // One node more.
-    fn with(self, node: Node<'t>) -> Result<Reader<'t>, LineFault> {
+    fn with(self, node: Node<'t>) -> Result<Reader<'t>, LineFault>
+        ensures { Gives reading_of result (Ok (g.with (reading_of self.entry) (node_of node.entry))) }
+    {
         let Reader {
             alloc,
             groups,
@@ -62,7 +73,9 @@ impl<'t> Reader<'t> {
     }
 
     // A choice opens.
-    fn choice_opened(self, line: u32, condition: Condition<'t>) -> Result<Reader<'t>, LineFault> {
+    fn choice_opened(self, line: u32, condition: Condition<'t>) -> Result<Reader<'t>, LineFault>
+        ensures { Gives reading_of result (after_line line (If (condition_of condition.entry)) (reading_of self.entry)) }
+    {
         let Reader {
             alloc,
             mut groups,
@@ -86,7 +99,9 @@ impl<'t> Reader<'t> {
     }
 
     // A loop opens.
-    fn loop_opened(self, head: Head<'t>) -> Result<Reader<'t>, LineFault> {
+    fn loop_opened(self, head: Head<'t>) -> Result<Reader<'t>, LineFault>
+        ensures { Gives reading_of result (after_line head.entry.line (For head.entry.name.now head.entry.array.now) (reading_of self.entry)) }
+    {
         let Reader {
             alloc,
             mut groups,
@@ -104,19 +119,24 @@ impl<'t> Reader<'t> {
     }
 
     // A further branch: in a choice, and not after its `@#else`.
-    fn further(self, line: u32, condition: Condition<'t>) -> Result<Reader<'t>, LineFault> {
+    fn further(self, line: u32, condition: Condition<'t>) -> Result<Reader<'t>, LineFault>
+        ensures { Gives reading_of result (further line (condition_of condition.entry) (reading_of self.entry).nodes (reading_of self.entry).groups) }
+    {
         let Reader {
             alloc,
             mut groups,
             nodes,
         } = self;
-        let Some(Group::Choice {
-            outer,
-            opener,
-            finished,
-            line: head,
-            condition: was,
-        }) = groups.pop() else {
+        let Some(
+            Group::Choice {
+                outer,
+                opener,
+                finished,
+                line: head,
+                condition: was,
+            },
+        ) = groups.pop()
+        else {
             return refused(MacroKind::Unbalanced);
         };
         if is_otherwise(was) {
@@ -138,19 +158,24 @@ impl<'t> Reader<'t> {
     }
 
     // The end of a choice.
-    fn choice_ended(self) -> Result<Reader<'t>, LineFault> {
+    fn choice_ended(self) -> Result<Reader<'t>, LineFault>
+        ensures { Gives reading_of result (choice_ended (reading_of self.entry).nodes (reading_of self.entry).groups) }
+    {
         let Reader {
             alloc,
             mut groups,
             nodes,
         } = self;
-        let Some(Group::Choice {
-            outer,
-            finished,
-            line,
-            condition,
-            ..
-        }) = groups.pop() else {
+        let Some(
+            Group::Choice {
+                outer,
+                finished,
+                line,
+                condition,
+                ..
+            },
+        ) = groups.pop()
+        else {
             return refused(MacroKind::Unbalanced);
         };
         let branches = with_branch(finished, line, condition, nodes)?;
@@ -164,7 +189,9 @@ impl<'t> Reader<'t> {
     }
 
     // The end of a loop.
-    fn loop_ended(self) -> Result<Reader<'t>, LineFault> {
+    fn loop_ended(self) -> Result<Reader<'t>, LineFault>
+        ensures { Gives reading_of result (loop_ended (reading_of self.entry).nodes (reading_of self.entry).groups) }
+    {
         let Reader {
             alloc,
             mut groups,
@@ -184,7 +211,9 @@ impl<'t> Reader<'t> {
     }
 
     // What is read after a line more.
-    fn after(self, line: u32, content: Content<'t>) -> Result<Reader<'t>, LineFault> {
+    fn after(self, line: u32, content: Content<'t>) -> Result<Reader<'t>, LineFault>
+        ensures { Gives reading_of result (after_line line (shown content.entry) (reading_of self.entry)) }
+    {
         match content {
             Content::Alone(statement) => self.with(Node::Simple { line, statement }),
             Content::Include(expr) => self.with(Node::Included { line, expr }),
@@ -198,7 +227,9 @@ impl<'t> Reader<'t> {
     }
 
     // No group may be open at the end.
-    fn whole(self) -> Result<Items<Node<'t>>, TreeFault> {
+    fn whole(self) -> Result<Items<Node<'t>>, TreeFault>
+        ensures { GivesPlaced nodes_of result (whole (reading_of self.entry)) }
+    {
         let Reader { groups, nodes, .. } = self;
         match groups.as_slice().first() {
             None => Ok(nodes),
@@ -216,7 +247,9 @@ fn refused<T>(kind: MacroKind) -> Result<T, LineFault>
     Err(LineFault::Refused { kind })
 }
 
-fn is_otherwise(condition: Condition) -> bool {
+fn is_otherwise(condition: Condition) -> bool
+    ensures { result ≡ is_otherwise (condition_of condition.entry) }
+{
     match condition {
         Condition::Otherwise => true,
         _ => false,
@@ -228,7 +261,9 @@ fn with_branch<'t>(
     line: u32,
     condition: Condition<'t>,
     body: Items<Node<'t>>,
-) -> Result<Items<Branch<'t>>, LineFault> {
+) -> Result<Items<Branch<'t>>, LineFault>
+    ensures { Gives branches_of result (Ok (with_branch (branches_of finished.entry) line (condition_of condition.entry) (nodes_of body.entry))) }
+{
     let mut branches = finished;
     branches.push(Branch::When {
         line,
@@ -238,16 +273,21 @@ fn with_branch<'t>(
     Ok(branches)
 }
 
-fn opener_of(group: &Group) -> u32 {
+fn opener_of(group: &Group) -> u32
+    ensures { result ≡ opener (group_of group.now) }
+{
     match group {
         Group::Choice { opener, .. } => *opener,
         Group::Loop { head, .. } => head.line,
     }
 }
 
-fn placed<T>(answer: Result<T, LineFault>, line: u32) -> Result<T, TreeFault> {
+// What one line more makes, at its line.
+fn placed<'t>(answer: Result<Reader<'t>, LineFault>, line: u32) -> Result<Reader<'t>, TreeFault>
+    ensures { Placed answer.entry line result }
+{
     match answer {
-        Ok(x) => Ok(x),
+        Ok(reader) => Ok(reader),
         Err(LineFault::Refused { kind }) => Err(TreeFault::Refused { kind, line }),
         Err(LineFault::NoMemory) => Err(TreeFault::NoMemory),
     }
@@ -258,6 +298,8 @@ fn placed<T>(answer: Result<T, LineFault>, line: u32) -> Result<T, TreeFault> {
 /// language"; at most 100 groups are open, which is modpath's own).
 pub fn tree_of<'t>(alloc: Global, text: &'t [u8]) -> Result<Items<Node<'t>>, TreeFault>
     requires { length text.now ≤ 8388608 }
+    ensures tree { GivesPlaced nodes_of result (groups text.now) }
+    ensures few { IfOk result (λ nodes. nodes_weight (nodes_of nodes) ≤ length text.now) }
 {
     let mut reader = Reader::new(alloc);
     let (_, mut rest) = text.split_at(0);

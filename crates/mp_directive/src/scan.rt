@@ -1,8 +1,8 @@
 // Parts of a line.
-ghost use Rattle.std.specs.Prelude.{◌≡◌, ◌≤◌, ◌∷◌, ◌<◌, length};
+ghost use Rattle.std.specs.Prelude.{◌≡◌, ◌≤◌, ◌∷◌, ◌<◌, ◌==◌, length, false, not, option_map};
 ghost use Rattle.std.specs.List.{prefix_len};
 ghost use Rattle.mp_directive.specs.Lines.{lines};
-ghost use Rattle.mp_directive.specs.Directives.{is_blank, is_word, is_first, is_name, trimmed, word, after_word, code_length, code, quoted_after, begins_comment, begins_directive};
+ghost use Rattle.mp_directive.specs.Directives.{is_blank, is_word, is_first, is_name, trimmed, word, after_word, code_length, code, quoted_after, begins_comment, past, past_mark};
 
 // A space, a tab, a carriage return or a form feed.
 fn is_blank(b: u8) -> bool
@@ -79,10 +79,23 @@ pub(crate) fn is_name(word: &[u8]) -> bool
 }
 
 // Whether `//` begins here.
-fn begins_comment(bytes: &[u8], at: usize) -> bool
-    requires { at < length bytes.now }
+fn begins_comment(b: u8, more: &[u8]) -> bool
+    ensures { result ≡ begins_comment b more.now }
 {
-    bytes[at] == b'/' && at + 1 < bytes.len() && bytes[at + 1] == b'/'
+    let Some(next) = more.first() else {
+        return false;
+    };
+    b == b'/' && *next == b'/'
+}
+
+// Whether a text is open after this byte.
+fn quoted_after(quoted: bool, b: u8) -> bool
+    ensures { result ≡ quoted_after quoted b }
+{
+    if b == b'"' {
+        return !quoted;
+    }
+    quoted
 }
 
 // How many bytes stand before the first `//` outside a text.
@@ -91,16 +104,18 @@ fn code_length(bytes: &[u8]) -> usize
     ensures value { result ≡ code_length false bytes.now }
     ensures within { result ≤ length bytes.now }
 {
+    let (_, mut rest) = bytes.split_at(0);
+    let mut length: usize = 0;
     let mut quoted = false;
-    for (i, b) in bytes.iter().enumerate() {
-        if !quoted && begins_comment(bytes, i) {
-            return i;
+    'bytes: while let Some((b, more)) = rest.split_first() {
+        if !quoted && begins_comment(*b, more) {
+            return length;
         }
-        if *b == b'"' {
-            quoted = !quoted;
-        }
+        quoted = quoted_after(quoted, *b);
+        rest = more;
+        length += 1;
     }
-    bytes.len()
+    length
 }
 
 // Without the comment.
@@ -110,16 +125,27 @@ pub(crate) fn code(bytes: &[u8]) -> &[u8]
     &bytes[..code_length(bytes)]
 }
 
-// What stands after `@#`, if it begins here.
-pub(crate) fn after_mark(bytes: &[u8]) -> Option<&[u8]> {
-    if bytes.len() >= 2 && bytes[0] == b'@' && bytes[1] == b'#' {
-        return Some(&bytes[2..]);
+// What follows this byte, where it begins.
+fn past(byte: u8, bytes: &[u8]) -> Option<&[u8]>
+    ensures { option_map (λ r. r.now) result ≡ past byte bytes.now }
+{
+    let (first, more) = bytes.split_first()?;
+    if *first == byte {
+        return Some(more);
     }
     None
 }
 
+// What follows `@#`, where it begins.
+pub(crate) fn past_mark(bytes: &[u8]) -> Option<&[u8]>
+    ensures { option_map (λ r. r.now) result ≡ past_mark bytes.now }
+{
+    past(b'#', past(b'@', bytes)?)
+}
+
 // How many bytes stand before the first newline.
 fn line_length(text: &[u8]) -> usize
+    ensures value { result ≡ prefix_len (λ b. not (b == 10)) text.now }
     ensures within { result ≤ length text.now }
 {
     for (i, b) in text.iter().enumerate() {
@@ -133,11 +159,12 @@ fn line_length(text: &[u8]) -> usize
 // The first line, and what stands after its newline.
 pub(crate) fn first_line(text: &[u8]) -> (&[u8], &[u8])
     requires { 0 < length text.now }
-    ensures { lines text.now ≡ result.0.now ∷ lines result.1.now }
+    ensures value { lines text.now ≡ result.0.now ∷ lines result.1.now }
+    ensures fewer { length result.1.now < length text.now }
 {
-    let length = line_length(text);
-    if length == text.len() {
-        return text.split_at(length);
+    let (line, rest) = text.split_at(line_length(text));
+    match rest.split_first() {
+        Some((_, more)) => (line, more),
+        None => (line, rest),
     }
-    (&text[..length], &text[length + 1..])
 }

@@ -1,6 +1,6 @@
 // The expansion of a file.
 
-use crate::fault::ExpandFault;
+use crate::fault::{ExpandFault, Stop};
 use crate::reading::{fetch, placed, refusal, tree};
 use crate::state::State;
 use crate::statement::{carry_out, elements, file_name, holds};
@@ -22,7 +22,7 @@ fn expand_nodes<F: Files>(
     room: u8,
     nodes: &[Node],
     state: &mut State,
-) -> Result<(), ExpandFault> {
+) -> Result<(), Stop> {
     for node in nodes {
         expand_node(alloc, files, file, room, node, state)?;
     }
@@ -37,13 +37,13 @@ fn expand_node<F: Files>(
     room: u8,
     node: &Node,
     state: &mut State,
-) -> Result<(), ExpandFault> {
+) -> Result<(), Stop> {
     match node {
         Node::Simple { line, statement } => {
-            placed(carry_out(alloc, statement, state), file, *line)
+            placed(alloc, carry_out(alloc, statement, state), file, *line)
         }
         Node::Included { line, expr } => {
-            let name = placed(file_name(alloc, expr, &state.env), file, *line)?;
+            let name = placed(alloc, file_name(alloc, expr, &state.env), file, *line)?;
             expand_include(alloc, files, file, *line, name.as_slice(), room, state)
         }
         Node::Choice { branches } => {
@@ -64,14 +64,14 @@ fn expand_branches<F: Files>(
     room: u8,
     branches: &[Branch],
     state: &mut State,
-) -> Result<(), ExpandFault> {
+) -> Result<(), Stop> {
     for branch in branches {
         let Branch::When {
             line,
             condition,
             body,
         } = branch;
-        if placed(holds(alloc, condition, &state.env), file, *line)? {
+        if placed(alloc, holds(alloc, condition, &state.env), file, *line)? {
             return expand_nodes(alloc, files, file, room, body.as_slice(), state);
         }
     }
@@ -88,11 +88,11 @@ fn expand_loop<F: Files>(
     head: &Head,
     body: &[Node],
     state: &mut State,
-) -> Result<(), ExpandFault> {
-    let values = placed(elements(alloc, head.array, &state.env), file, head.line)?;
+) -> Result<(), Stop> {
+    let values = placed(alloc, elements(alloc, head.array, &state.env), file, head.line)?;
     let former = state.value(alloc, head.name)?;
     for value in values.as_slice() {
-        placed(begin_turn(alloc, head.name, value, state), file, head.line)?;
+        placed(alloc, begin_turn(alloc, head.name, value, state), file, head.line)?;
         expand_nodes(alloc, files, file, room, body, state)?;
     }
     state.restore(head.name, former)?;
@@ -121,13 +121,13 @@ fn expand_include<F: Files>(
     name: &[u8],
     room: u8,
     state: &mut State,
-) -> Result<(), ExpandFault> {
+) -> Result<(), Stop> {
     if room == 0 {
-        return Err(refusal(MacroKind::IncludeDeep, file, line));
+        return Err(refusal(alloc, MacroKind::IncludeDeep, file, line));
     }
-    placed(state.count(), file, line)?;
+    placed(alloc, state.count(), file, line)?;
     let mut bytes = Bytes::new(alloc);
-    fetch(files, name, file, line, &mut bytes)?;
+    fetch(alloc, files, name, file, line, &mut bytes)?;
     let nodes = tree(alloc, name, bytes.as_slice())?;
     expand_nodes(alloc, files, name, room - 1, nodes.as_slice(), state)
 }
@@ -149,10 +149,20 @@ pub fn expand<F: Files>(
     name: &[u8],
     defines: &Defines,
 ) -> Result<Bytes, ExpandFault> {
-    let mut bytes = Bytes::new(alloc);
-    fetch(files, name, name, 0, &mut bytes)?;
-    let nodes = tree(alloc, name, bytes.as_slice())?;
     let mut state = State::new(alloc, environment(alloc, defines)?);
-    expand_nodes(alloc, files, name, MOST_INCLUDED, nodes.as_slice(), &mut state)?;
+    expand_main(alloc, files, name, &mut state)?;
     Ok(state.into_text())
+}
+
+// The main file.
+fn expand_main<F: Files>(
+    alloc: Global,
+    files: &mut F,
+    name: &[u8],
+    state: &mut State,
+) -> Result<(), Stop> {
+    let mut bytes = Bytes::new(alloc);
+    fetch(alloc, files, name, name, 0, &mut bytes)?;
+    let nodes = tree(alloc, name, bytes.as_slice())?;
+    expand_nodes(alloc, files, name, MOST_INCLUDED, nodes.as_slice(), state)
 }

@@ -1,6 +1,8 @@
 // Why there is no expanded text.
 
 use mp_base::{Label, MacroKind, NoMemory};
+use sqlite_items::Boxed;
+use std::alloc::AllocError;
 use std::fmt;
 use thiserror::Error;
 
@@ -36,5 +38,57 @@ impl From<NoMemory> for ExpandFault {
 
     fn from(_: NoMemory) -> Self {
         ExpandFault::NoMemory
+    }
+}
+
+/// Why an expansion stops, in few bytes, since many parts of files are expanded inside one another.
+#[derive(Drop)]
+pub enum Stop {
+    Macro {
+        kind: MacroKind,
+        file: Boxed<Label>,
+        line: u32,
+    },
+    Absent { name: Boxed<Label> },
+    ReadFault { count: u64 },
+    NoMemory,
+}
+
+impl From<NoMemory> for Stop {
+    ghost use Rattle.std.specs.Prelude.{◌≡◌};
+    ghost use Rattle.mp_macro.specs.declared.fault.Stop.TheVariants.{NoMemory};
+
+    ghost from_gives = { λ _ e. e ≡ NoMemory };
+
+    fn from(_: NoMemory) -> Self {
+        Stop::NoMemory
+    }
+}
+
+impl From<AllocError> for Stop {
+    ghost use Rattle.std.specs.Prelude.{◌≡◌};
+    ghost use Rattle.mp_macro.specs.declared.fault.Stop.TheVariants.{NoMemory};
+
+    ghost from_gives = { λ _ e. e ≡ NoMemory };
+
+    fn from(_: AllocError) -> Self {
+        Stop::NoMemory
+    }
+}
+
+impl From<Stop> for ExpandFault {
+    fn from(stop: Stop) -> Self {
+        match stop {
+            Stop::Macro { kind, file, line } => ExpandFault::Macro {
+                kind,
+                file: file.into_inner(),
+                line,
+            },
+            Stop::Absent { name } => ExpandFault::Absent {
+                name: name.into_inner(),
+            },
+            Stop::ReadFault { count } => ExpandFault::ReadFault { count },
+            Stop::NoMemory => ExpandFault::NoMemory,
+        }
     }
 }

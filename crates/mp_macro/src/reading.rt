@@ -1,57 +1,64 @@
 // The files that are asked for.
 ghost use Rattle.std.specs.Prelude.{◌≤◌, length};
 
-use crate::fault::ExpandFault;
+use crate::fault::Stop;
 use mp_base::{Bytes, Label, MacroKind};
 use mp_directive::{Node, TreeFault, tree_of};
 use mp_mexpr::MacroFault;
 use mp_outside::{Fetched, Files};
-use sqlite_items::Items;
+use sqlite_items::{Boxed, Items};
 use std::alloc::Global;
 
 // How many bytes a file may have.
 const MOST_BYTES: u64 = 8_388_608;
 
 // A refusal at this line of this file.
-pub(crate) fn refusal(kind: MacroKind, file: &[u8], line: u32) -> ExpandFault {
-    ExpandFault::Macro {
-        kind,
-        file: Label::of(file),
-        line,
+pub(crate) fn refusal(alloc: Global, kind: MacroKind, file: &[u8], line: u32) -> Stop {
+    match Boxed::new(alloc, Label::of(file)) {
+        Ok(file) => Stop::Macro { kind, file, line },
+        Err(_) => Stop::NoMemory,
+    }
+}
+
+// A file with this name is absent.
+fn absent(alloc: Global, name: &[u8]) -> Stop {
+    match Boxed::new(alloc, Label::of(name)) {
+        Ok(name) => Stop::Absent { name },
+        Err(_) => Stop::NoMemory,
     }
 }
 
 // What one line has made, or its refusal at this line of this file.
 pub(crate) fn placed<T>(
+    alloc: Global,
     answer: Result<T, MacroFault>,
     file: &[u8],
     line: u32,
-) -> Result<T, ExpandFault> {
+) -> Result<T, Stop> {
     match answer {
         Ok(x) => Ok(x),
-        Err(MacroFault::Refused { kind }) => Err(refusal(kind, file, line)),
-        Err(MacroFault::NoMemory) => Err(ExpandFault::NoMemory),
+        Err(MacroFault::Refused { kind }) => Err(refusal(alloc, kind, file, line)),
+        Err(MacroFault::NoMemory) => Err(Stop::NoMemory),
     }
 }
 
 // Puts the bytes of a file, which is asked for in this line of this file, into `into`.
 pub(crate) fn fetch<F: Files>(
+    alloc: Global,
     files: &mut F,
     name: &[u8],
     file: &[u8],
     line: u32,
     into: &mut Bytes,
-) -> Result<(), ExpandFault> {
+) -> Result<(), Stop> {
     match files.fetch(name, MOST_BYTES, into) {
         Fetched::Got => Ok(()),
-        Fetched::Absent => Err(ExpandFault::Absent {
-            name: Label::of(name),
-        }),
-        Fetched::ReadFault => Err(ExpandFault::ReadFault {
+        Fetched::Absent => Err(absent(alloc, name)),
+        Fetched::ReadFault => Err(Stop::ReadFault {
             count: files.faults(),
         }),
-        Fetched::TooLong => Err(refusal(MacroKind::FileLong, file, line)),
-        Fetched::NoMemory => Err(ExpandFault::NoMemory),
+        Fetched::TooLong => Err(refusal(alloc, MacroKind::FileLong, file, line)),
+        Fetched::NoMemory => Err(Stop::NoMemory),
     }
 }
 
@@ -60,12 +67,12 @@ pub(crate) fn tree<'t>(
     alloc: Global,
     file: &[u8],
     bytes: &'t [u8],
-) -> Result<Items<Node<'t>>, ExpandFault> 
+) -> Result<Items<Node<'t>>, Stop> 
     requires { length bytes.now ≤ 8388608 }
 {
     match tree_of(alloc, bytes) {
         Ok(nodes) => Ok(nodes),
-        Err(TreeFault::Refused { kind, line }) => Err(refusal(kind, file, line)),
-        Err(TreeFault::NoMemory) => Err(ExpandFault::NoMemory),
+        Err(TreeFault::Refused { kind, line }) => Err(refusal(alloc, kind, file, line)),
+        Err(TreeFault::NoMemory) => Err(Stop::NoMemory),
     }
 }

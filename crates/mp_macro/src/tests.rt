@@ -151,3 +151,19 @@ fn files_are_refused(rt: HostRuntime) -> Result<(), Fail> {
     }
     Ok(())
 }
+
+// Files in each other with as many groups as may be open: the stack holds them.
+#[test]
+fn the_deepest_files_fit_the_stack(rt: HostRuntime) -> Result<(), Fail> {
+    let mut text = Bytes::new(rt.alloc());
+    for _ in 0..14 {
+        text.add(b"@#if 1\n@#for i in [1]\n")?;
+    }
+    text.add(b"@#include \"m\"\n")?;
+    for _ in 0..14 {
+        text.add(b"@#endfor\n@#endif\n")?;
+    }
+    let answer = answer(rt.alloc(), text.as_slice(), b"");
+    is_refused(&rt, answer, MacroKind::IncludeDeep, b"m", 29);
+    Ok(())
+}

@@ -1,0 +1,5 @@
+pub mod Lines
+pub mod Trees
+pub mod Stacks
+pub mod Weights
+pub mod Turns
