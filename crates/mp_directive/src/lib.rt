@@ -12,4 +12,5 @@ pub use content::{Condition, Statement};
 pub use fault::TreeFault;
 pub use groups::tree_of;
 pub use keyword::Keyword;
+pub use scan::{begins_comment, quoted_after};
 pub use tree::{Branch, Head, Node};

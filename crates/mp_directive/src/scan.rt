@@ -78,8 +78,8 @@ pub(crate) fn is_name(word: &[u8]) -> bool
         && word != b"in".as_slice()
 }
 
-// Whether `//` begins here.
-fn begins_comment(b: u8, more: &[u8]) -> bool
+/// Whether `//` begins here, with this byte.
+pub fn begins_comment(b: u8, more: &[u8]) -> bool
     ensures { result ≡ begins_comment b more.now }
 {
     let Some(next) = more.first() else {
@@ -88,8 +88,8 @@ fn begins_comment(b: u8, more: &[u8]) -> bool
     b == b'/' && *next == b'/'
 }
 
-// Whether a text is open after this byte.
-fn quoted_after(quoted: bool, b: u8) -> bool
+/// Whether a text is open after this byte.
+pub fn quoted_after(quoted: bool, b: u8) -> bool
     ensures { result ≡ quoted_after quoted b }
 {
     if b == b'"' {

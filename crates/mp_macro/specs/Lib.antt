@@ -2,3 +2,5 @@ pub mod Values
 pub mod Plain
 pub mod States
 pub mod Expansion
+pub mod Says
+pub mod Faults

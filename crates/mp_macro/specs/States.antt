@@ -55,12 +55,20 @@ abbrev pub defined_value : Names → Option (List ℕ) → Result Value MacroKin
 defined_value names None = Ok (Whole (pos 1))
 defined_value names (Some expr) = value names expr
 
+-- a text is evaluated
+abbrev pub echoed : Names → List ℕ → Result (Unit {0}) MacroKind
+echoed names expr = value names expr >>= text_of >>= λ t. Ok tt
+
+-- the user's fault, where the expression is a text
+abbrev pub user_error : Names → List ℕ → Result (Unit {0}) MacroKind
+user_error names expr = value names expr >>= text_of >>= λ t. Err UserError
+
 -- what one line does by itself
 abbrev pub after_statement : Statement → State → Outcome
 after_statement (Plain line) s = after_pieces (pieces line) s
 after_statement (Define name expr) s = defined_value s.names expr >>= λ v. Ok (named name (Some v) s)
-after_statement (Echo expr) s = value s.names expr >>= text_of >>= λ t. Ok s
-after_statement (Error expr) s = value s.names expr >>= text_of >>= λ t. Err UserError
+after_statement (Echo expr) s = echoed s.names expr >>= λ u. Ok s
+after_statement (Error expr) s = user_error s.names expr >>= λ u. Ok s
 
 -- whether a branch is taken
 abbrev pub holds : Names → Condition → Result Bool MacroKind

@@ -3,10 +3,10 @@
 use crate::fault::{ExpandFault, Stop};
 use crate::reading::{fetch, placed, refusal, tree};
 use crate::state::State;
-use crate::statement::{carry_out, elements, file_name, holds};
+use crate::statement::{begin_turn, carry_out, elements, file_name, holds};
 use mp_base::{Bytes, MacroKind, NoMemory};
 use mp_directive::{Branch, Head, Node};
-use mp_mexpr::{Defines, Env, MacroFault, Value, copy};
+use mp_mexpr::{Defines, Env, copy};
 use mp_outside::Files;
 use std::alloc::Global;
 
@@ -89,25 +89,23 @@ fn expand_loop<F: Files>(
     body: &[Node],
     state: &mut State,
 ) -> Result<(), Stop> {
-    let values = placed(alloc, elements(alloc, head.array, &state.env), file, head.line)?;
+    let values = placed(
+        alloc,
+        elements(alloc, head.array, &state.env),
+        file,
+        head.line,
+    )?;
     let former = state.value(alloc, head.name)?;
     for value in values.as_slice() {
-        placed(alloc, begin_turn(alloc, head.name, value, state), file, head.line)?;
+        placed(
+            alloc,
+            begin_turn(alloc, head.name, value, state),
+            file,
+            head.line,
+        )?;
         expand_nodes(alloc, files, file, room, body, state)?;
     }
     state.restore(head.name, former)?;
-    Ok(())
-}
-
-// A turn of a loop begins.
-fn begin_turn(
-    alloc: Global,
-    name: &[u8],
-    element: &Value,
-    state: &mut State,
-) -> Result<(), MacroFault> {
-    state.count()?;
-    state.name(name, copy(alloc, element)?)?;
     Ok(())
 }
 

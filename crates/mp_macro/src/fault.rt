@@ -17,9 +17,13 @@ pub enum ExpandFault {
         line: u32,
     },
     #[error("a file is absent")]
-    Absent { name: Label },
+    Absent {
+        name: Label,
+    },
     #[error("reading has failed {count} times")]
-    ReadFault { count: u64 },
+    ReadFault {
+        count: u64,
+    },
     #[error("there was no memory")]
     NoMemory,
 }
@@ -49,8 +53,12 @@ pub enum Stop {
         file: Boxed<Label>,
         line: u32,
     },
-    Absent { name: Boxed<Label> },
-    ReadFault { count: u64 },
+    Absent {
+        name: Boxed<Label>,
+    },
+    ReadFault {
+        count: u64,
+    },
     NoMemory,
 }
 
@@ -77,6 +85,11 @@ impl From<AllocError> for Stop {
 }
 
 impl From<Stop> for ExpandFault {
+    ghost use Rattle.std.specs.Prelude.{◌≡◌};
+    ghost use Rattle.mp_macro.specs.Faults.{fault_of};
+
+    ghost from_gives = { λ stop e. e ≡ fault_of stop };
+
     fn from(stop: Stop) -> Self {
         match stop {
             Stop::Macro { kind, file, line } => ExpandFault::Macro {

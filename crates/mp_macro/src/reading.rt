@@ -63,11 +63,7 @@ pub(crate) fn fetch<F: Files>(
 }
 
 // The tree of a file, or its own fault.
-pub(crate) fn tree<'t>(
-    alloc: Global,
-    file: &[u8],
-    bytes: &'t [u8],
-) -> Result<Items<Node<'t>>, Stop> 
+pub(crate) fn tree<'t>(alloc: Global, file: &[u8], bytes: &'t [u8]) -> Result<Items<Node<'t>>, Stop>
     requires { length bytes.now ≤ 8388608 }
 {
     match tree_of(alloc, bytes) {

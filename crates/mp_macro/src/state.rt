@@ -21,8 +21,15 @@ pub struct State {
 }
 
 impl State {
+    ghost use Rattle.std.specs.Prelude.{◌≡◌, ◌≤◌, ◌++◌, ◌∷◌, [], length, Some, OnOk, IfOk};
+    ghost use Rattle.mp_mexpr.specs.Environments.{value_in};
+    ghost use Rattle.mp_macro.specs.States.{written, counted, named};
+    ghost use Rattle.mp_macro.specs.Says.{state_of, Makes};
+
     // No turn is made and nothing is written.
-    pub(crate) fn new(alloc: Global, env: Env) -> State {
+    pub(crate) fn new(alloc: Global, env: Env) -> State
+        ensures { state_of result ≡ record { names = value_in env; turns = 0; text = [] } }
+    {
         State {
             env,
             turns: 0,
@@ -31,7 +38,9 @@ impl State {
     }
 
     // Writes a piece.
-    pub(crate) fn write(&mut self, piece: &[u8]) -> Result<(), MacroFault> {
+    pub(crate) fn write(&mut self, piece: &[u8]) -> Result<(), MacroFault>
+        ensures { Makes self.new result (written piece.now (state_of self.old)) }
+    {
         if piece.len() > MOST_BYTES - self.text.as_slice().len() {
             return Err(MacroFault::Refused {
                 kind: MacroKind::TextLimit,
@@ -41,8 +50,24 @@ impl State {
         Ok(())
     }
 
+    // Writes the rest of a line with its newline.
+    pub(crate) fn write_rest(&mut self, rest: &[u8]) -> Result<(), MacroFault>
+        ensures { Makes self.new result (written (rest.now ++ 10 ∷ []) (state_of self.old)) }
+    {
+        if rest.len() >= MOST_BYTES - self.text.as_slice().len() {
+            return Err(MacroFault::Refused {
+                kind: MacroKind::TextLimit,
+            });
+        }
+        self.text.add(rest)?;
+        self.text.add(b"\n")?;
+        Ok(())
+    }
+
     // Counts a turn of a loop, or an include.
-    pub(crate) fn count(&mut self) -> Result<(), MacroFault> {
+    pub(crate) fn count(&mut self) -> Result<(), MacroFault>
+        ensures { Makes self.new result (counted (state_of self.old)) }
+    {
         if self.turns >= MOST_TURNS {
             return Err(MacroFault::Refused {
                 kind: MacroKind::TurnsLimit,
@@ -53,12 +78,16 @@ impl State {
     }
 
     // The name has this value from now on.
-    pub(crate) fn name(&mut self, name: &[u8], value: Value) -> Result<(), NoMemory> {
+    pub(crate) fn name(&mut self, name: &[u8], value: Value) -> Result<(), NoMemory>
+        ensures { OnOk result (state_of self.new ≡ named name.now (Some value) (state_of self.old)) }
+    {
         self.env.set(name, value)
     }
 
     // A copy of the name's value.
-    pub(crate) fn value(&self, alloc: Global, name: &[u8]) -> Result<Option<Value>, NoMemory> {
+    pub(crate) fn value(&self, alloc: Global, name: &[u8]) -> Result<Option<Value>, NoMemory>
+        ensures { IfOk result (λ v. v ≡ (state_of self.now).names name.now) }
+    {
         match self.env.get(name) {
             Some(value) => Ok(Some(copy(alloc, value)?)),
             None => Ok(None),
@@ -66,7 +95,9 @@ impl State {
     }
 
     // The name has this value again, or none.
-    pub(crate) fn restore(&mut self, name: &[u8], value: Option<Value>) -> Result<(), NoMemory> {
+    pub(crate) fn restore(&mut self, name: &[u8], value: Option<Value>) -> Result<(), NoMemory>
+        ensures { OnOk result (state_of self.new ≡ named name.now value (state_of self.old)) }
+    {
         match value {
             Some(value) => self.env.set(name, value),
             None => {
@@ -77,7 +108,10 @@ impl State {
     }
 
     // The text written.
-    pub(crate) fn into_text(self) -> Bytes {
+    pub(crate) fn into_text(self) -> Bytes
+        ensures text { result ≡ (state_of self).text }
+        ensures short { length result ≤ 8388608 }
+    {
         self.text
     }
 }
