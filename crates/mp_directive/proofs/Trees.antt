@@ -4,7 +4,7 @@ use Rattle.mp_directive.specs.Directives as d
 use Rattle.mp_directive.specs.Tree as t
 use Rattle.mp_directive.specs.Shown.{condition_of, node_of, nodes_in, nodes_of, branch_of, branches_in, branches_of}
 use Rattle.mp_directive.specs.declared.tree.Node.{Node, Row_of-Branch, end_of-Branch, more_of-Branch, items-the_row-Branch, Row_of-Node, end_of-Node, more_of-Node, items-the_row-Node}
-use Rattle.mp_directive.specs.declared.tree.Branch.{Branch, When'}
+use Rattle.mp_directive.specs.declared.tree.Branch.{Branch, When', Otherwise'}
 use Rattle.mp_directive.specs.declared.tree.Node.TheVariants as n
 use Rattle.mp_directive.specs.declared.tree.Branch.TheVariants as b
 use Rattle.mp_directive.specs.declared.tree.Branch.TheViews.{the_lemmas}
@@ -26,10 +26,14 @@ nodes-push (y ∷ ys) x = ap (λ l. t.Then (node_of y) l) (nodes-push ys x)
 -- a branch at the end, by its parts
 pub branches-push : (xs : List Branch) (x : Branch) (line : ℕ) (c : d.Condition) (body : t.Nodes) → ((more : t.Branches) → branch_of x more ≡ t.Branch line c body more) → branches_of (xs ++ x ∷ []) ≡ t.with_branch (branches_of xs) line c body
 branches-push [] x line c body e = e t.NoBranch
+branches-push (Otherwise' l n row ∷ ys) x line c body e = ap (λ m. t.Branch l d.Otherwise (nodes_in row) m) (branches-push ys x line c body e)
 branches-push (When' l k n row ∷ ys) x line c body e = ap (λ m. t.Branch l (condition_of k) (nodes_in row) m) (branches-push ys x line c body e)
 
 pub When-is : (line : ℕ) (c : Condition) (body : List Node) (more : t.Branches) → branch_of (b.When line c body) more ≡ t.Branch line (condition_of c) (nodes_of body) more
 When-is line c body more = search (rules, the_lemmas, nodes-row)
+
+pub Otherwise-is : (line : ℕ) (body : List Node) (more : t.Branches) → branch_of (b.Otherwise line body) more ≡ t.Branch line d.Otherwise (nodes_of body) more
+Otherwise-is line body more = search (rules, the_lemmas, nodes-row)
 
 pub Choice-is : (branches : List Branch) → node_of (n.Choice branches) ≡ t.Choice (branches_of branches)
 Choice-is branches = search (rules, the_lemmas, branches-row)

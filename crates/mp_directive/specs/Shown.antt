@@ -10,7 +10,7 @@ use Rattle.mp_directive.specs.declared.content.Statement.TheVariants.{Plain, Def
 use Rattle.mp_directive.specs.declared.content.Content.{Content}
 use Rattle.mp_directive.specs.declared.content.Content.TheVariants.{Alone, Include, If, Further, EndIf, For, EndFor, IllFormed}
 use Rattle.mp_directive.specs.declared.tree.Node.{Node, Simple, Included, Choice', Loop', Row_of-Branch, end_of-Branch, more_of-Branch, Row_of-Node, end_of-Node, more_of-Node}
-use Rattle.mp_directive.specs.declared.tree.Branch.{Branch, When'}
+use Rattle.mp_directive.specs.declared.tree.Branch.{Branch, When', Otherwise'}
 use Rattle.mp_directive.specs.declared.groups.Group.{Group}
 use Rattle.mp_directive.specs.declared.groups.Group.TheVariants as o
 
@@ -54,6 +54,7 @@ abbrev mutual
   -- in front of further branches
   pub branch_of : Branch → t.Branches → t.Branches
   branch_of (When' line condition shape row) more = t.Branch line (condition_of condition) (nodes_in row) more
+  branch_of (Otherwise' line shape row) more = t.Branch line d.Otherwise (nodes_in row) more
 
 abbrev pub nodes_of : List Node → t.Nodes
 nodes_of [] = t.Done

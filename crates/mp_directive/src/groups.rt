@@ -1,11 +1,12 @@
 // How lines stand in groups.
 ghost use Rattle.std.specs.Prelude.{◌≡◌, ◌≤◌, ◌+◌, length, Err, IfOk, OnOk, reverse, map};
 ghost use Rattle.mp_directive.specs.Lines.{lines};
-ghost use Rattle.mp_directive.specs.Tree.{nodes_weight, with_branch};
+ghost use Rattle.mp_directive.specs.Tree.{nodes_weight, with_branch, Branches};
+ghost use Rattle.mp_directive.specs.Tree as t;
 ghost use Rattle.mp_directive.specs.Groups.{nothing_read, is_otherwise, further, choice_ended, loop_ended, after_line, opener, whole, groups};
 ghost use Rattle.mp_directive.specs.Directives.{If, For};
 ghost use Rattle.mp_directive.specs.Groups as g;
-ghost use Rattle.mp_directive.specs.Shown.{condition_of, shown, node_of, nodes_of, branches_of, group_of};
+ghost use Rattle.mp_directive.specs.Shown.{condition_of, shown, node_of, nodes_of, branch_of, branches_of, group_of};
 ghost use Rattle.mp_directive.specs.Gives.{reading_of, Gives, GivesPlaced, Placed};
 
 use crate::content::{Condition, Content, Statement, content_of};
@@ -265,12 +266,21 @@ fn with_branch<'t>(
     ensures { Gives branches_of result (Ok (with_branch (branches_of finished.entry) line (condition_of condition.entry) (nodes_of body.entry))) }
 {
     let mut branches = finished;
-    branches.push(Branch::When {
-        line,
-        condition,
-        body,
-    })?;
+    branches.push(branch_with(line, condition, body))?;
     Ok(branches)
+}
+
+fn branch_with<'t>(line: u32, condition: Condition<'t>, body: Items<Node<'t>>) -> Branch<'t>
+    ensures { (more : Branches) → branch_of result more ≡ t.Branch line (condition_of condition.entry) (nodes_of body.entry) more }
+{
+    match condition {
+        Condition::Otherwise => Branch::Otherwise { line, body },
+        _ => Branch::When {
+            line,
+            condition,
+            body,
+        },
+    }
 }
 
 fn opener_of(group: &Group) -> u32

@@ -13,4 +13,4 @@ pub use fault::TreeFault;
 pub use groups::tree_of;
 pub use keyword::Keyword;
 pub use scan::{begins_comment, quoted_after};
-pub use tree::{Branch, Head, Node};
+pub use tree::{Branch, Head, Node, parts_of};

@@ -1,4 +1,7 @@
 // The tree of a file's lines.
+ghost use Rattle.std.specs.Prelude.{◌≡◌};
+ghost use Rattle.mp_directive.specs.Tree as t;
+ghost use Rattle.mp_directive.specs.Shown.{condition_of, nodes_of, branch_of};
 
 use crate::content::{Condition, Statement};
 use sqlite_items::Items;
@@ -32,7 +35,7 @@ pub enum Node<'t> {
     },
 }
 
-/// The lines that are taken under a condition, with the line of the condition.
+/// The lines that are taken under a condition, or where no earlier branch is, with the line that begins them.
 #[cycle(tree)]
 #[derive(Drop)]
 pub enum Branch<'t> {
@@ -41,4 +44,22 @@ pub enum Branch<'t> {
         condition: Condition<'t>,
         body: Items<Node<'t>>,
     },
+    Otherwise {
+        line: u32,
+        body: Items<Node<'t>>,
+    },
+}
+
+/// The line of a branch's condition, the condition and the lines.
+pub fn parts_of<'a, 't>(branch: &'a Branch<'t>) -> (u32, Condition<'t>, &'a [Node<'t>])
+    ensures { (more : t.Branches) → branch_of branch.now more ≡ t.Branch result.0 (condition_of result.1) (nodes_of result.2.now) more }
+{
+    match branch {
+        Branch::When {
+            line,
+            condition,
+            body,
+        } => (*line, *condition, body.as_slice()),
+        Branch::Otherwise { line, body } => (*line, Condition::Otherwise, body.as_slice()),
+    }
 }

@@ -1,2 +1,4 @@
 pub mod Values
 pub mod Pieces
+pub mod Steps
+pub mod Parts

@@ -88,7 +88,11 @@ defined names (d ∷ ds) = defined (with_name names d.name (Some d.value)) ds
 abbrev pub start : List Define → State
 start defines = record { names = defined (λ name. None) defines; turns = 0; text = [] }
 
--- the text of a file in which all directives are carried out, or the first refusal; at most 32 files are open
+-- what the main file makes of a state; at most 32 files are open
+abbrev pub after_main : Listing → List ℕ → State → Step
+after_main l name s =
+    contents (lookup l name) name name 0 >>= λ bytes. after_file (include l 31) name bytes s
+
+-- the text of a file in which all directives are carried out, or the first refusal
 abbrev pub expands : Listing → List ℕ → List Define → Result (List ℕ) Refusal
-expands l name defines =
-    contents (lookup l name) name name 0 >>= λ bytes. after_file (include l 31) name bytes (start defines) >>= λ s. Ok s.text
+expands l name defines = after_main l name (start defines) >>= λ s. Ok s.text

@@ -31,6 +31,20 @@ Placed answer file line (Err (t.Absent name)) = ⊥
 Placed answer file line (Err (t.ReadFault count)) = ⊥
 Placed answer file line (Err t.NoMemory) = Unit {0}
 
+-- a refusal at this line of this file, or there was no memory
+abbrev pub Refuses : MacroKind → List ℕ → ℕ → Stop → Type 0
+Refuses kind file line (t.Macro k f l) = (k ≡ kind) × (f ≡ file) × (l ≡ line)
+Refuses kind file line (t.Absent name) = ⊥
+Refuses kind file line (t.ReadFault count) = ⊥
+Refuses kind file line t.NoMemory = Unit {0}
+
+-- a file is absent, or there was no memory
+abbrev pub Misses : List ℕ → Stop → Type 0
+Misses name (t.Absent n) = n ≡ name
+Misses name (t.Macro kind file line) = ⊥
+Misses name (t.ReadFault count) = ⊥
+Misses name t.NoMemory = Unit {0}
+
 -- what was returned, seen by view, is what is meant, unless there was no memory
 abbrev pub Gives : {X Y : Type 0} → (Y → X) → Result Y Stop → Result X e.Refusal → Type 0
 Gives view (Ok y) meant = meant ≡ Ok (view y)

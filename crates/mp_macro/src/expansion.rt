@@ -1,11 +1,18 @@
 // The expansion of a file.
+ghost use Rattle.std.specs.Prelude.{◌≡◌, ◌≤◌, length, IfOk, MatchResult, None};
+ghost use Rattle.mp_outside.specs.Outside.{Later};
+ghost use Rattle.mp_mexpr.specs.Environments.{value_in};
+ghost use Rattle.mp_directive.specs.Tree.{Loop, weight, nodes_weight, branches_weight};
+ghost use Rattle.mp_directive.specs.Shown.{node_of, nodes_of, branches_of};
+ghost use Rattle.mp_macro.specs.Expansion.{after_node, after_nodes, after_branches, after_main, include, defined, expands};
+ghost use Rattle.mp_macro.specs.Says.{state_of, Says, SaysText, ShowsCause};
 
 use crate::fault::{ExpandFault, Stop};
 use crate::reading::{fetch, placed, refusal, tree};
 use crate::state::State;
 use crate::statement::{begin_turn, carry_out, elements, file_name, holds};
 use mp_base::{Bytes, MacroKind, NoMemory};
-use mp_directive::{Branch, Head, Node};
+use mp_directive::{Branch, Head, Node, parts_of};
 use mp_mexpr::{Defines, Env, copy};
 use mp_outside::Files;
 use std::alloc::Global;
@@ -22,9 +29,16 @@ fn expand_nodes<F: Files>(
     room: u8,
     nodes: &[Node],
     state: &mut State,
-) -> Result<(), Stop> {
-    for node in nodes {
+) -> Result<(), Stop>
+    requires short { length file.now ≤ 128 }
+    requires light { nodes_weight (nodes_of nodes.now) ≤ 8388608 }
+    ensures says { Says (state_of state.new) (F.outside files.old) (F.outside files.new) (λ l. after_nodes (include l room) file.now (nodes_of nodes.now) (state_of state.old)) result }
+    ensures later { Later (F.outside files.old) (F.outside files.new) }
+{
+    let (_, mut rest) = nodes.split_at(0);
+    'nodes: while let Some((node, more)) = rest.split_first() {
         expand_node(alloc, files, file, room, node, state)?;
+        rest = more;
     }
     Ok(())
 }
@@ -37,7 +51,12 @@ fn expand_node<F: Files>(
     room: u8,
     node: &Node,
     state: &mut State,
-) -> Result<(), Stop> {
+) -> Result<(), Stop>
+    requires short { length file.now ≤ 128 }
+    requires light { weight (node_of node.now) ≤ 8388608 }
+    ensures says { Says (state_of state.new) (F.outside files.old) (F.outside files.new) (λ l. after_node (include l room) file.now (node_of node.now) (state_of state.old)) result }
+    ensures later { Later (F.outside files.old) (F.outside files.new) }
+{
     match node {
         Node::Simple { line, statement } => {
             placed(alloc, carry_out(alloc, statement, state), file, *line)
@@ -64,16 +83,19 @@ fn expand_branches<F: Files>(
     room: u8,
     branches: &[Branch],
     state: &mut State,
-) -> Result<(), Stop> {
-    for branch in branches {
-        let Branch::When {
-            line,
-            condition,
-            body,
-        } = branch;
-        if placed(alloc, holds(alloc, condition, &state.env), file, *line)? {
-            return expand_nodes(alloc, files, file, room, body.as_slice(), state);
+) -> Result<(), Stop>
+    requires short { length file.now ≤ 128 }
+    requires light { branches_weight (branches_of branches.now) ≤ 8388608 }
+    ensures says { Says (state_of state.new) (F.outside files.old) (F.outside files.new) (λ l. after_branches (include l room) file.now (branches_of branches.now) (state_of state.old)) result }
+    ensures later { Later (F.outside files.old) (F.outside files.new) }
+{
+    let (_, mut rest) = branches.split_at(0);
+    'branches: while let Some((branch, more)) = rest.split_first() {
+        let (line, condition, body) = parts_of(branch);
+        if placed(alloc, holds(alloc, &condition, &state.env), file, line)? {
+            return expand_nodes(alloc, files, file, room, body, state);
         }
+        rest = more;
     }
     Ok(())
 }
@@ -88,7 +110,12 @@ fn expand_loop<F: Files>(
     head: &Head,
     body: &[Node],
     state: &mut State,
-) -> Result<(), Stop> {
+) -> Result<(), Stop>
+    requires short { length file.now ≤ 128 }
+    requires light { nodes_weight (nodes_of body.now) ≤ 8388607 }
+    ensures says { Says (state_of state.new) (F.outside files.old) (F.outside files.new) (λ l. after_node (include l room) file.now (Loop head.now.line head.now.name.now head.now.array.now (nodes_of body.now)) (state_of state.old)) result }
+    ensures later { Later (F.outside files.old) (F.outside files.new) }
+{
     let values = placed(
         alloc,
         elements(alloc, head.array, &state.env),
@@ -96,7 +123,8 @@ fn expand_loop<F: Files>(
         head.line,
     )?;
     let former = state.value(alloc, head.name)?;
-    for value in values.as_slice() {
+    let mut rest = values.as_slice();
+    'turns: while let Some((value, more)) = rest.split_first() {
         placed(
             alloc,
             begin_turn(alloc, head.name, value, state),
@@ -104,6 +132,7 @@ fn expand_loop<F: Files>(
             head.line,
         )?;
         expand_nodes(alloc, files, file, room, body, state)?;
+        rest = more;
     }
     state.restore(head.name, former)?;
     Ok(())
@@ -119,7 +148,12 @@ fn expand_include<F: Files>(
     name: &[u8],
     room: u8,
     state: &mut State,
-) -> Result<(), Stop> {
+) -> Result<(), Stop>
+    requires file { length file.now ≤ 128 }
+    requires name { length name.now ≤ 128 }
+    ensures says { Says (state_of state.new) (F.outside files.old) (F.outside files.new) (λ l. include l room file.now line name.now (state_of state.old)) result }
+    ensures later { Later (F.outside files.old) (F.outside files.new) }
+{
     if room == 0 {
         return Err(refusal(alloc, MacroKind::IncludeDeep, file, line));
     }
@@ -131,12 +165,31 @@ fn expand_include<F: Files>(
 }
 
 // The names that are defined outside the files.
-fn environment(alloc: Global, defines: &Defines) -> Result<Env, NoMemory> {
+fn environment(alloc: Global, defines: &Defines) -> Result<Env, NoMemory>
+    ensures { IfOk result (λ env. value_in env ≡ defined (λ name. None) defines.now) }
+{
     let mut env = Env::new(alloc);
     for define in defines.as_slice() {
         env.set(define.name.as_slice(), copy(alloc, &define.value)?)?;
     }
     Ok(env)
+}
+
+// The main file.
+fn expand_main<F: Files>(
+    alloc: Global,
+    files: &mut F,
+    name: &[u8],
+    state: &mut State,
+) -> Result<(), Stop>
+    requires { length name.now ≤ 128 }
+    ensures says { Says (state_of state.new) (F.outside files.old) (F.outside files.new) (λ l. after_main l name.now (state_of state.old)) result }
+    ensures later { Later (F.outside files.old) (F.outside files.new) }
+{
+    let mut bytes = Bytes::new(alloc);
+    fetch(alloc, files, name, name, 0, &mut bytes)?;
+    let nodes = tree(alloc, name, bytes.as_slice())?;
+    expand_nodes(alloc, files, name, MOST_INCLUDED, nodes.as_slice(), state)
 }
 
 /// The text of a file in which all directives are carried out, or why there is none (Dynare manual, "Macro processing
@@ -146,21 +199,16 @@ pub fn expand<F: Files>(
     files: &mut F,
     name: &[u8],
     defines: &Defines,
-) -> Result<Bytes, ExpandFault> {
+) -> Result<Bytes, ExpandFault>
+    requires { length name.now ≤ 128 }
+    // What is answered where the files tell their listing.
+    ensures says { SaysText (F.outside files.old).listing (λ l. expands l name.now defines.now) result }
+    // What is answered in any case.
+    ensures cause { MatchResult result (λ _. Unit {0}) (ShowsCause (F.outside files.old) (F.outside files.new)) }
+    ensures later { Later (F.outside files.old) (F.outside files.new) }
+    ensures short { IfOk result (λ text. length text ≤ 8388608) }
+{
     let mut state = State::new(alloc, environment(alloc, defines)?);
     expand_main(alloc, files, name, &mut state)?;
     Ok(state.into_text())
-}
-
-// The main file.
-fn expand_main<F: Files>(
-    alloc: Global,
-    files: &mut F,
-    name: &[u8],
-    state: &mut State,
-) -> Result<(), Stop> {
-    let mut bytes = Bytes::new(alloc);
-    fetch(alloc, files, name, name, 0, &mut bytes)?;
-    let nodes = tree(alloc, name, bytes.as_slice())?;
-    expand_nodes(alloc, files, name, MOST_INCLUDED, nodes.as_slice(), state)
 }
