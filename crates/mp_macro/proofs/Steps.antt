@@ -1,8 +1,8 @@
 -- What parts of a file say one after the other.
-use Rattle.std.proofs.Common.{◌≡◌, ℕ, zero, suc, ◌+◌, ◌-◌, ◌≤◌, ◌^◌, min, List, [], ◌∷◌, Result, Ok, Err, Some, None, Bool, true, false, refl, sym, ap, ◌∙◌, subst, arith, if◌then◌else◌}
+use Rattle.std.proofs.Common.{◌≡◌, ℕ, zero, suc, ◌+◌, ◌-◌, ◌≤◌, ◌^◌, min, List, [], ◌∷◌, length, Result, Ok, Err, Some, None, Bool, true, false, refl, sym, ap, ◌∙◌, subst, arith, if◌then◌else◌}
 use Rattle.mp_base.specs.declared.kinds.MacroKind.{MacroKind}
 use Rattle.mp_base.specs.declared.kinds.MacroKind.TheVariants as k
-use Rattle.mp_outside.specs.Outside.{Outside, Listing, Later, Rose, lookup}
+use Rattle.mp_outside.specs.Outside.{Outside, Listing, Later, lookup}
 use Rattle.mp_mexpr.specs.Gives as x
 use Rattle.mp_mexpr.specs.declared.value.Value.{Value}
 use Rattle.mp_mexpr.specs.declared.fault.MacroFault.{MacroFault}
@@ -129,3 +129,41 @@ tree-stops a b room file line name z t bytes e some made got own-fault =
 pub include-goes-on : (a b d : Outside) (room : ℕ) (file : List ℕ) (line : ℕ) (name : List ℕ) (z t new : State) (bytes : List ℕ) (nodes : t'.Nodes) (r : Result (Unit {0}) Stop) → (room ≡ 0 → ⊥) → counted z ≡ Ok t → Told a (λ l. contents (lookup l name) name file line) (Ok bytes) → tree name (groups bytes) ≡ Ok nodes → Later a b → Says new b d (λ l. after_nodes (include l (room - 1)) name nodes t) r → Says new a d (λ l. include l room file line name z) r
 include-goes-on a b d room file line name z t new bytes nodes r some made got read later says =
     says-after new a b d (λ l. after_nodes (include l (room - 1)) name nodes t) (λ l. include l room file line name z) r later (λ l told. include-counted l room file line name z t some made ∙ ap (λ x. x >>= opened l room name t) (got l told) ∙ ap (λ x. x >>= λ nodes. after_nodes (include l (room - 1)) name nodes t) read) says
+
+-- one loop: the file, the line, the name, the array's expression and the body
+module _ (room : ℕ) (file : List ℕ) (line : ℕ) (name array : List ℕ) (body : t'.Nodes) where
+  abbrev pub looped : State → Listing → Step
+  looped z l = after_node (include l room) file (t'.Loop line name array body) z
+
+  abbrev pub turned : Listing → List Value → State → Step
+  turned l = turns (after_nodes (include l room) file body) file line name
+
+  pub loop-rest : (l : Listing) (vs start rest : List Value) (z st : State) → elements z.names array ≡ Ok vs → start ≡ vs → turned l rest st ≡ turned l start z → looped z l ≡ (turned l rest st >>= restored name z)
+  loop-rest l vs start rest z st e same told =
+      loop-is (include l room) file line name array body vs z e
+      ∙ ap (λ r. r >>= restored name z) (ap (λ x. turned l x z) (sym same) ∙ sym told)
+
+  pub turn-stops : (a b : Outside) (vs start rest more : List Value) (v : Value) (z st : State) (new : c.State) (answer : Result (Unit {0}) MacroFault) (e : Stop) → elements z.names array ≡ Ok vs → start ≡ vs → rest ≡ v ∷ more → Makes new answer (turn_begun name v st) → Placed answer file line (Err e) → ((l : Listing) → a.listing ≡ Some l → turned l rest st ≡ turned l start z) → Says z a b (looped z) (Err e)
+  turn-stops a b vs start rest more v z st new answer e elems same split made placed told =
+      let first : Listing → Step = λ l. at file line (turn_begun name v st) in
+      let second : Listing → Step = λ l. first l >>= after_nodes (include l room) file body in
+      let third : Listing → Step = λ l. second l >>= turned l more in
+      says-after z a a b (λ l. third l >>= restored name z) (looped z) (Err e) (later-refl a)
+          (λ l t. loop-rest l vs start rest z st elems same (told l t) ∙ ap (λ x. turned l x st >>= restored name z) split)
+      (stops z z a b third (λ l. restored name z) e
+      (stops z z a b second (λ l. turned l more) e
+      (stops z z a b first (λ l. after_nodes (include l room) file body) e
+      (refused answer (turn_begun name v st) z a b file line e (makes-refused new answer (turn_begun name v st) made) placed))))
+
+  pub body-stops : (a b d : Outside) (vs start rest more : List Value) (v : Value) (z st s1 new : State) (e : Stop) → elements z.names array ≡ Ok vs → start ≡ vs → rest ≡ v ∷ more → turn_begun name v st ≡ Ok s1 → Later a b → ((l : Listing) → a.listing ≡ Some l → turned l rest st ≡ turned l start z) → Says new b d (λ l. after_nodes (include l room) file body s1) (Err e) → Says z a d (looped z) (Err e)
+  body-stops a b d vs start rest more v z st s1 new e elems same split begun later told says =
+      let first : Listing → Step = λ l. after_nodes (include l room) file body s1 in
+      let second : Listing → Step = λ l. first l >>= turned l more in
+      says-after z a b d (λ l. second l >>= restored name z) (looped z) (Err e) later
+          (λ l t. loop-rest l vs start rest z st elems same (told l t) ∙ ap (λ x. turned l x st >>= restored name z) split ∙ ap (λ x. ((at file line x >>= after_nodes (include l room) file body) >>= turned l more) >>= restored name z) begun)
+      (stops z z b d second (λ l. restored name z) e
+      (stops new z b d first (λ l. turned l more) e says))
+
+  pub loop-ends : (a : Outside) (vs start rest : List Value) (z st new : State) → elements z.names array ≡ Ok vs → start ≡ vs → length rest ≡ 0 → ((l : Listing) → a.listing ≡ Some l → turned l rest st ≡ turned l start z) → new ≡ named name (z.names name) st → Told a (looped z) (Ok new)
+  loop-ends a vs start [] z st new elems same none told is = λ l t. loop-rest l vs start [] z st elems same (told l t) ∙ ap (λ x. Ok x) (sym is)
+  loop-ends a vs start (x ∷ rest) z st new elems same none told is = cc

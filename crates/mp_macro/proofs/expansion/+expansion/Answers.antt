@@ -5,11 +5,11 @@ use Rattle.mp_directive.specs.Results.{◌>>=◌}
 use Rattle.mp_directive.specs.Tree.{Loop, weight, nodes_weight, branches_weight}
 use Rattle.mp_directive.specs.Groups.{groups}
 use Rattle.mp_directive.specs.Shown.{node_of, nodes_of, branches_of}
-use Rattle.mp_macro.specs.States.{counted, elements, turn_begun}
+use Rattle.mp_macro.specs.States.{counted, named, elements, turn_begun}
 use Rattle.mp_macro.specs.Expansion.{at, contents, after_file, after_node, after_nodes, after_branches, include, tree, turns, restored}
 use Rattle.mp_macro.specs.Says.{state_of, Gives, Says}
 use Rattle.mp_macro.proofs.Parts.{choice-of, loop-of}
-use Rattle.mp_macro.proofs.Steps.{later-refl, says-after, stops, refused, makes-refused, makes-ok, gives-ok, own, loop-is, deep-says, count-stops, fetch-stops, tree-stops, include-goes-on}
+use Rattle.mp_macro.proofs.Steps.{later-refl, says-after, stops, refused, makes-refused, makes-ok, gives-ok, own, loop-is, deep-says, count-stops, fetch-stops, tree-stops, include-goes-on, turn-stops, body-stops, loop-ends}
 use Rattle.mp_macro.proofs.expansion.+expansion.Goals as goal
 
 pub expand_node-expand_branches-requires : goal.expand_node-expand_branches-requires
@@ -68,3 +68,27 @@ expand_include-returns-clause-says g t c =
     let read = subst (λ b. tree c.args.name.now (groups b) ≡ Ok (nodes_of c.in_ok-nodes.nodes)) c.as_slice.ensures c.in_ok-nodes.ensures.tree in
     let read' = read ∙ ap (λ b. Ok (nodes_of b)) (sym c.as_slice-2.ensures) in
     include-goes-on (g.F.Files.outside c.args.files.now) (g.F.Files.outside c.fetch.new.files) (g.F.Files.outside c.expand_nodes.new.files) c.args.room c.args.file.now c.args.line c.args.name.now (state_of c.args.state.now) (state_of c.count.new.self) (state_of c.expand_nodes.new.state) c.fetch.new.into (nodes_of c.as_slice-2.result.now) c.expand_nodes.result c.if-room-eq0.false counts c.in_ok-fetch.ensures.says read' c.in_ok-fetch.ensures.later c.expand_nodes.ensures.says
+
+pub expand_loop-returns-in_err-placed-clause-says : goal.expand_loop-returns-in_err-placed-clause-says
+expand_loop-returns-in_err-placed-clause-says g t c =
+    let p = err_from_is_err_and c.from_residual-in_err-placed.result c.from_residual-in_err-placed.ensures.1 in
+    let h = c.args.head.now in
+    let z = state_of c.args.state.now in
+    let elems = gives-ok c.elements.result (elements z.names h.array.now) c.in_ok-values.values c.elements.ensures c.in_ok-values.ensures in
+    rw (p.1, p.2) (turn-stops c.args.room c.args.file.now h.line h.name.now h.array.now (nodes_of c.args.body.now) (g.F.Files.outside c.args.files.now) (g.F.Files.outside c.turns.files) c.in_ok-values.values c.as_slice-rest.result.now c.turns.rest.now c.in-Some.more.now c.in-Some.value.now z (state_of c.turns.state) c.begin_turn.new.state c.begin_turn.result c.in_err-placed.field-0.0 elems c.as_slice-rest.ensures c.in-Some.ensures.cases.0 c.begin_turn.ensures c.in_err-placed.ensures c.turns.invariant.told)
+
+pub expand_loop-returns-in_err-expand_nodes-clause-says : goal.expand_loop-returns-in_err-expand_nodes-clause-says
+expand_loop-returns-in_err-expand_nodes-clause-says g t c =
+    let p = err_from_is_err_and c.from_residual-in_err-expand_nodes.result c.from_residual-in_err-expand_nodes.ensures.1 in
+    let h = c.args.head.now in
+    let z = state_of c.args.state.now in
+    let elems = gives-ok c.elements.result (elements z.names h.array.now) c.in_ok-values.values c.elements.ensures c.in_ok-values.ensures in
+    let begun = makes-ok c.begin_turn.new.state c.begin_turn.result (turn_begun h.name.now c.in-Some.value.now (state_of c.turns.state)) c.in_ok-placed.field-0 c.begin_turn.ensures c.in_ok-placed.ensures in
+    rw (p.1, p.2) (body-stops c.args.room c.args.file.now h.line h.name.now h.array.now (nodes_of c.args.body.now) (g.F.Files.outside c.args.files.now) (g.F.Files.outside c.turns.files) (g.F.Files.outside c.expand_nodes.new.files) c.in_ok-values.values c.as_slice-rest.result.now c.turns.rest.now c.in-Some.more.now c.in-Some.value.now z (state_of c.turns.state) (state_of c.begin_turn.new.state) (state_of c.expand_nodes.new.state) c.in_err-expand_nodes.field-0.0 elems c.as_slice-rest.ensures c.in-Some.ensures.cases.0 begun c.turns.invariant.later c.turns.invariant.told c.in_err-expand_nodes.ensures.says)
+
+pub expand_loop-returns-clause-says : goal.expand_loop-returns-clause-says
+expand_loop-returns-clause-says g t c =
+    let h = c.args.head.now in
+    let z = state_of c.args.state.now in
+    let elems = gives-ok c.elements.result (elements z.names h.array.now) c.in_ok-values.values c.elements.ensures c.in_ok-values.ensures in
+    loop-ends c.args.room c.args.file.now h.line h.name.now h.array.now (nodes_of c.args.body.now) (g.F.Files.outside c.args.files.now) c.in_ok-values.values c.as_slice-rest.result.now c.turns.rest.now z (state_of c.turns.state) (state_of c.restore.new.self) elems c.as_slice-rest.ensures c.in_default.ensures.cases c.turns.invariant.told (c.in_ok-restore.ensures ∙ ap (λ v. named h.name.now v (state_of c.turns.state)) c.turns.invariant.former)

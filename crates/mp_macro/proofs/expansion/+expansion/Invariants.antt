@@ -45,6 +45,7 @@ decreases-expand_branches-branches g l = length l.rest
 abbrev pub invariant-expand_loop-turns : goal.invariant-expand_loop-turns
 invariant-expand_loop-turns g l = record {
   later : Later (g.F.Files.outside l.fn.files) (g.F.Files.outside l.files);
+  former : l.former ≡ (state_of l.fn.state).names l.head.name.now;
   told : (k : Listing) → (g.F.Files.outside l.fn.files).listing ≡ Some k → turns (after_nodes (include k l.room) l.file (nodes_of l.body)) l.file l.head.line l.head.name.now l.rest (state_of l.state) ≡ turns (after_nodes (include k l.room) l.file (nodes_of l.body)) l.file l.head.line l.head.name.now l.initial.rest (state_of l.fn.state);
 }
 
