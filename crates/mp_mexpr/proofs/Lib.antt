@@ -1,3 +1,6 @@
+pub mod Chains
+pub mod Depth
+pub mod Derived
 pub mod Lexing
 pub mod Names
 pub mod Natural
