@@ -8,4 +8,5 @@ pub mod Natural
 pub mod Numbers
 pub mod Operators
 pub mod Reading
+pub mod Readings
 pub mod Rows

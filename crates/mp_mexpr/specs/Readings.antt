@@ -1,8 +1,9 @@
 -- The grammar of expressions: what a list of tokens is read as, and the tokens after it (Dynare manual, "Macro
 -- processing language"; the precedence of the operators is modpath's own). Operators of one level associate to the left.
-use Rattle.std.specs.Prelude.{◌≡◌, ℕ, List, [], ◌∷◌, Bool, true, false, Ok, Err}
+use Rattle.std.specs.Prelude.{◌≡◌, ℕ, List, [], ◌∷◌, Bool, true, false, Result, Ok, Err}
 use Rattle.mp_base.specs.declared.kinds.MacroKind.TheVariants.{NestDeep, BadExpression}
 use Rattle.mp_mexpr.specs.declared.fault.MacroFault.{MacroFault}
+use Rattle.mp_mexpr.specs.declared.fault.MacroFault.TheVariants as f
 use Rattle.mp_mexpr.specs.declared.operator.Operator.{Operator}
 use Rattle.mp_mexpr.specs.declared.operator.Operator.TheVariants as o
 use Rattle.mp_mexpr.specs.declared.token.Mark.TheVariants as m
@@ -96,3 +97,9 @@ pub data Means (env : Environment) : List Tok × Bool → Valued → Type 0 wher
   cut : (ts : List Tok) → is_deep ts ≡ false → Means env (ts, false) (Err BadExpression)
   unread : (ts : List Tok) → is_deep ts ≡ false → ((e : Expr) → Reads ts e → ⊥) → Means env (ts, true) (Err BadExpression)
   read : (ts : List Tok) (e : Expr) → is_deep ts ≡ false → Reads ts e → Means env (ts, true) (value_of env e)
+
+-- what was returned is what these bytes mean, unless there was no memory
+abbrev pub GivesMeant : Environment → List ℕ → Result Value MacroFault → Type 0
+GivesMeant env bytes (Ok value) = Means env (tokens bytes) (Ok value)
+GivesMeant env bytes (Err (f.Refused kind)) = Means env (tokens bytes) (Err kind)
+GivesMeant env bytes (Err f.NoMemory) = Unit {0}
