@@ -1,6 +1,7 @@
 pub mod Chains
 pub mod Depth
 pub mod Derived
+pub mod Equality
 pub mod Found
 pub mod Lexing
 pub mod Names

@@ -18,7 +18,7 @@ pub use defines::{Define, Defines};
 pub use env::Env;
 pub use evaluate::eval;
 pub use fault::MacroFault;
-pub use laws::grammar_law;
+pub use laws::{grammar_law, same_law};
 pub use operator::Operator;
 pub use value::{Value, Values, copy, print_value, same};
 
