@@ -1,5 +1,5 @@
 -- What an operator makes is within the limits of arrays.
-use Rattle.std.proofs.Common.{◌≡◌, ℕ, ℤ, List, [], ◌∷◌, ◌++◌, Bool, true, false, ◌&&◌, nat_le, length, if◌then◌else◌, Result, Ok, Err, refl, sym, ap, ◌∙◌, subst}
+use Rattle.std.proofs.Common.{◌≡◌, ℕ, ℤ, List, [], ◌∷◌, ◌++◌, Bool, true, false, ◌&&◌, nat_le, length, if◌then◌else◌, Result, Ok, Err, refl, ap, ◌∙◌}
 use Rattle.std.specs.Prelude.{IfOk, ◌-ℤ◌, ◌*ℤ◌, ◌+ℤ◌}
 use Rattle.mp_base.specs.declared.kinds.MacroKind.{MacroKind}
 use Rattle.mp_base.specs.declared.kinds.MacroKind.TheVariants.{Overflow, ArrayLimit}
@@ -9,7 +9,7 @@ use Rattle.mp_mexpr.specs.declared.value.Value.{Value, Whole, Truth, Text, List'
 use Rattle.mp_mexpr.specs.declared.value.Value.TheVariants as v
 use Rattle.mp_mexpr.specs.declared.value.Value.TheViews.{the_lemmas}
 use Rattle.mp_mexpr.specs.Values.{nests_within, all_nest_within, row_items}
-use Rattle.mp_mexpr.specs.Meaning.{Valued, ◌>>=◌, fits, number, made, IsBounded, whole_of, truth_of, elements_of, numbers_from, count_between, sum_value, numbers_value, strict_value, apply_value}
+use Rattle.mp_mexpr.specs.Meaning.{Valued, ◌>>=◌, fits, number, made, IsBounded, whole_of, truth_of, elements_of, numbers_from, count_between, sum_value, strict_value, apply_value}
 use Rattle.mp_mexpr.proofs.Rows.{rows-items}
 
 list-bounded : (xs : List Value) → all_nest_within 99 xs ≡ true → IsBounded (v.List xs)

@@ -1,10 +1,10 @@
 -- How many more brackets may be open, and what a reading does to this.
-use Rattle.std.proofs.Common.{◌≡◌, ℕ, zero, suc, ◌+◌, ◌<◌, ◌≤◌, List, [], ◌∷◌, length, Bool, true, false, ◌||◌, nat_lt, refl, sym, ap, ◌∙◌, arith}
+use Rattle.std.proofs.Common.{◌≡◌, ℕ, zero, suc, ◌+◌, ◌<◌, ◌≤◌, List, [], ◌∷◌, length, Bool, true, false, ◌||◌, nat_lt, refl, arith}
 use Rattle.std.proofs.lemmas.Bool.Decides.{nat_tests}
 use Rattle.mp_mexpr.specs.declared.operator.Operator.{Operator}
 use Rattle.mp_mexpr.specs.declared.token.Mark.TheVariants as m
 use Rattle.mp_mexpr.specs.Syntax.{Expr, Exprs}
-use Rattle.mp_mexpr.specs.Tokens.{Tok, Digits, Quoted, Name, Binary, Single, opens, closes, deep_after}
+use Rattle.mp_mexpr.specs.Tokens.{Tok, Binary, Single, deep_after}
 use Rattle.mp_mexpr.specs.Readings as g
 use Rattle.mp_mexpr.specs.Readings.{OrReads, AndReads, ComparisonReads, RangeReads, SumReads, ProductReads, UnaryReads, IndexReads, PrimaryReads, ElementsRead}
 

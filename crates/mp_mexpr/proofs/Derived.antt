@@ -1,11 +1,11 @@
 -- From the grammar to the reading functions.
-use Rattle.std.proofs.Common.{◌≡◌, ℕ, zero, suc, ◌<◌, List, [], ◌∷◌, length, Option, Some, None, refl, sym, ap, ◌∙◌, arith}
+use Rattle.std.proofs.Common.{◌≡◌, ℕ, zero, suc, List, [], ◌∷◌, length, Option, Some, None, refl, ap, ◌∙◌, arith}
 use Rattle.mp_mexpr.specs.declared.operator.Operator.{Operator}
 use Rattle.mp_mexpr.specs.declared.operator.Operator.TheVariants as o
 use Rattle.mp_mexpr.specs.declared.token.Mark.TheVariants as m
 use Rattle.mp_mexpr.specs.Syntax.{Expr, Exprs, Array, Negative, Not, Index, Empty, With}
-use Rattle.mp_mexpr.specs.Tokens.{Tok, Digits, Quoted, Name, Binary, Single}
-use Rattle.mp_mexpr.specs.Grammar.{Reader, ◌>>=◌, go_on, past, past_minus, operator_at, level_of, repeated, extended, indexed, more_elements_at, array_at, paren_at, primary_at, index_at, unary_at, level_at, inside_at, syntax}
+use Rattle.mp_mexpr.specs.Tokens.{Tok, Binary, Single}
+use Rattle.mp_mexpr.specs.Grammar.{Reader, ◌>>=◌, go_on, past, past_minus, level_of, repeated, extended, indexed, more_elements_at, array_at, paren_at, primary_at, index_at, unary_at, level_at, inside_at, syntax}
 use Rattle.mp_mexpr.specs.Readings as g
 use Rattle.mp_mexpr.specs.Readings.{Compares, Adds, OrReads, AndReads, ComparisonReads, RangeReads, SumReads, ProductReads, UnaryReads, IndexReads, PrimaryReads, ElementsRead}
 use Rattle.mp_mexpr.proofs.Depth.{Fits, or_passes, and_passes, comparison_passes, range_passes, sum_passes, product_passes, unary_passes, index_passes, elements_pass}

@@ -1,5 +1,5 @@
 -- The reading functions and the grammar say the same.
-use Rattle.std.proofs.Common.{◌≡◌, ℕ, ◌+◌, List, [], ◌∷◌, length, Bool, true, false, if◌then◌else◌, Option, Some, None, Result, Ok, Err, refl, sym, ap, ◌∙◌, subst, arith}
+use Rattle.std.proofs.Common.{◌≡◌, ℕ, List, [], ◌∷◌, length, Bool, true, false, if◌then◌else◌, Option, Some, None, Result, Ok, Err, refl, sym, ap, ◌∙◌, subst, arith}
 use Rattle.mp_base.specs.declared.kinds.MacroKind.TheVariants.{NestDeep, BadExpression}
 use Rattle.mp_mexpr.specs.declared.fault.MacroFault.{MacroFault}
 use Rattle.mp_mexpr.specs.declared.fault.MacroFault.TheVariants as f
@@ -10,7 +10,7 @@ use Rattle.mp_mexpr.specs.Grammar.{whole, is_empty, expr_at, syntax, expression_
 use Rattle.mp_mexpr.specs.Meaning.{Valued}
 use Rattle.mp_mexpr.specs.Readings as g
 use Rattle.mp_mexpr.specs.Readings.{OrReads, Reads, Means, GivesMeant}
-use Rattle.mp_mexpr.specs.Syntax.{Expr, value_of}
+use Rattle.mp_mexpr.specs.Syntax.{Expr}
 use Rattle.mp_mexpr.specs.Tokens.{Tok, is_deep, tokens}
 use Rattle.mp_mexpr.proofs.Depth.{Fits-length, Fits-deep}
 use Rattle.mp_mexpr.proofs.Derived.{or_read}

@@ -48,7 +48,15 @@ fn truth_of(value: &Value) -> Result<bool, MacroFault>
 fn made(elements: Values) -> Result<Value, MacroFault>
     ensures { Gives result (made elements) }
 {
-    if elements.len() <= 100_000 && all_nest_within(99, elements.as_slice()) {
+    let nests = all_nest_within(99, elements.as_slice());
+    made_where(nests, elements)
+}
+
+fn made_where(nests: bool, elements: Values) -> Result<Value, MacroFault>
+    requires { nests ≡ all_nest_within 99 elements }
+    ensures { Gives result (made elements) }
+{
+    if nests && elements.len() <= 100_000 {
         Ok(Value::List(elements))
     } else {
         refused(MacroKind::ArrayLimit)
@@ -175,11 +183,7 @@ fn append(bounded: bool, left: Values, right: Values) -> Result<Value, MacroFaul
     let nests = nest_within(bounded, left.as_slice(), right.as_slice());
     let mut elements = left;
     elements.append(right)?;
-    if nests && elements.len() <= 100_000 {
-        Ok(Value::List(elements))
-    } else {
-        refused(MacroKind::ArrayLimit)
-    }
+    made_where(nests, elements)
 }
 
 fn is_in(value: &Value, array: &Value) -> Result<Value, MacroFault>

@@ -35,8 +35,8 @@ chain_of-turns-preserved t c =
     record {
       bounded = λ _. subst (λ v. IfOk v IsBounded) (sym c.in_ok-found.ensures) (apply_value-bounded c.in-Some.operator c.turns.found c.in_ok-right.right);
       told =
-        ap (λ x. repeated (c.turns.left - 1) (operator_at c.args.level) (applied v (level_at v (inside_at v c.args.room) c.args.level)) x (toks c.in_ok-right.next.now)) c.in_ok-found.ensures
-        ∙ repeated-next (operator_at c.args.level) (applied v (level_at v (inside_at v c.args.room) c.args.level)) c.turns.left c.turns.found (toks c.turns.rest.now) (c.in-Some.operator, toks c.in-Some.after.now) (apply_value c.in-Some.operator c.turns.found c.in_ok-right.right, toks c.in_ok-right.next.now) _ c.turns.invariant.told c.turns-test.true c.in-Some.ensures (applied-is v (level_at v (inside_at v c.args.room) c.args.level) c.turns.found (c.in-Some.operator, toks c.in-Some.after.now) (Some read) c.in_ok-right.ensures);
+          ap (λ x. repeated (c.turns.left - 1) (operator_at c.args.level) (applied v (level_at v (inside_at v c.args.room) c.args.level)) x (toks c.in_ok-right.next.now)) c.in_ok-found.ensures
+          ∙ repeated-next (operator_at c.args.level) (applied v (level_at v (inside_at v c.args.room) c.args.level)) c.turns.left c.turns.found (toks c.turns.rest.now) (c.in-Some.operator, toks c.in-Some.after.now) (apply_value c.in-Some.operator c.turns.found c.in_ok-right.right, toks c.in_ok-right.next.now) _ c.turns.invariant.told c.turns-test.true c.in-Some.ensures (applied-is v (level_at v (inside_at v c.args.room) c.args.level) c.turns.found (c.in-Some.operator, toks c.in-Some.after.now) (Some read) c.in_ok-right.ensures);
     }
 
 pub more_elements-returns-in_default : goal.more_elements-returns-in_default
