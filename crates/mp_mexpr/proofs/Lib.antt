@@ -1,7 +1,14 @@
+pub mod Bounds
+pub mod Chains
+pub mod Depth
+pub mod Derived
+pub mod Equality
+pub mod Found
 pub mod Lexing
 pub mod Names
 pub mod Natural
 pub mod Numbers
 pub mod Operators
 pub mod Reading
+pub mod Readings
 pub mod Rows

@@ -1,5 +1,5 @@
 -- What each operator makes of its operands.
-use Rattle.std.specs.Prelude.{ℕ, zero, suc, ◌+◌, ◌-◌, ◌*◌, ◌^◌, ℤ, pos, negsuc, ◌+ℤ◌, ◌-ℤ◌, ◌*ℤ◌, neg_ℤ, int_lt, int_le, List, [], ◌∷◌, ◌++◌, length, slice_get, Bool, true, false, not, ◌&&◌, if◌then◌else◌, nat_lt, nat_le, Option, Some, None, Result, Ok, Err, ok_or}
+use Rattle.std.specs.Prelude.{◌≡◌, ℕ, zero, suc, ◌+◌, ◌-◌, ◌*◌, ◌^◌, ℤ, pos, negsuc, ◌+ℤ◌, ◌-ℤ◌, ◌*ℤ◌, neg_ℤ, int_lt, int_le, List, [], ◌∷◌, ◌++◌, length, slice_get, Bool, true, false, not, ◌&&◌, if◌then◌else◌, nat_lt, nat_le, Option, Some, None, Result, Ok, Err, ok_or}
 use Rattle.std.specs.List.{list_any}
 use Rattle.mp_base.specs.declared.kinds.MacroKind.{MacroKind}
 use Rattle.mp_base.specs.declared.kinds.MacroKind.TheVariants.{Unknown, WrongKind, Overflow, OutOfRange, ArrayLimit}
@@ -32,6 +32,11 @@ number n = if fits n then Ok (Whole n) else Err Overflow
 -- the array, of at most 100,000 elements and with at most 100 arrays inside one another
 abbrev pub made : List Value → Valued
 made xs = if nat_le (length xs) 100000 && all_nest_within 99 xs then Ok (v.List xs) else Err ArrayLimit
+
+-- an array's elements have at most 99 arrays inside one another
+abbrev pub IsBounded : Value → Type 0
+IsBounded (List' n row) = all_nest_within 99 (row_items row) ≡ true
+IsBounded _ = Unit {0}
 
 -- the number of a value
 abbrev pub whole_of : Value → Result ℤ MacroKind

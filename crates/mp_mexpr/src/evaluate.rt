@@ -3,6 +3,7 @@ ghost use Rattle.std.specs.Prelude.{◌≡◌};
 ghost use Rattle.mp_mexpr.specs.Tokens.{toks};
 ghost use Rattle.mp_mexpr.specs.Gives.{Gives};
 ghost use Rattle.mp_mexpr.specs.Grammar.{meaning, value_at_end, value_or_bad, expression_of};
+ghost use Rattle.mp_mexpr.specs.Readings.{GivesMeant};
 
 use crate::env::Env;
 use crate::fault::MacroFault;
@@ -18,6 +19,13 @@ use std::alloc::Global;
 /// close; else BadExpression where it has no reading; else what the first operand or operator that has no value gives,
 /// from left to right (Dynare manual, "Macro processing language"; kinds, precedence and limits are modpath's own).
 pub fn eval(alloc: Global, expr: &[u8], env: &Env) -> Result<Value, MacroFault>
+    ensures value { Gives result (meaning env.now expr.now) }
+    ensures by_grammar { GivesMeant env.now expr.now result }
+{
+    value_of_bytes(alloc, expr, env)
+}
+
+fn value_of_bytes(alloc: Global, expr: &[u8], env: &Env) -> Result<Value, MacroFault>
     ensures { Gives result (meaning env.now expr.now) }
 {
     let (tokens, whole) = lex(alloc, expr)?;

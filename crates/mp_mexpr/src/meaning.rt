@@ -1,7 +1,8 @@
 // What each operator makes of its operands.
-ghost use Rattle.std.specs.Prelude.{◌≡◌, ◌++◌, ◌≤◌, ◌^◌, ◌<◌, length, pos, not, IfOk, neg_ℤ, ◌+ℤ◌, ◌-ℤ◌, ◌*ℤ◌, ◌≤ℤ◌, ℤ};
+ghost use Rattle.std.specs.Prelude.{◌≡◌, ◌++◌, ◌≤◌, ◌^◌, ◌<◌, length, pos, not, true, IfOk, neg_ℤ, ◌+ℤ◌, ◌-ℤ◌, ◌*ℤ◌, ◌≤ℤ◌, ℤ};
 ghost use Rattle.mp_mexpr.specs.Gives.{Gives, Settles};
-ghost use Rattle.mp_mexpr.specs.Meaning.{numbers_value, number, made, whole_of, elements_of, truth_of, digits_after, digits_value, known, name_value, negative_value, not_value, or_value, and_value, numbers_from, count_between, sum_value, strict_value, apply_value, element_at, element_value, index_value, with_element, array_value};
+ghost use Rattle.mp_mexpr.specs.Values.{all_nest_within};
+ghost use Rattle.mp_mexpr.specs.Meaning.{numbers_value, number, made, IsBounded, whole_of, elements_of, truth_of, digits_after, digits_value, known, name_value, negative_value, not_value, or_value, and_value, numbers_from, count_between, sum_value, strict_value, apply_value, element_at, element_value, index_value, with_element, array_value};
 
 use crate::env::Env;
 use crate::fault::MacroFault;
@@ -47,7 +48,15 @@ fn truth_of(value: &Value) -> Result<bool, MacroFault>
 fn made(elements: Values) -> Result<Value, MacroFault>
     ensures { Gives result (made elements) }
 {
-    if elements.len() <= 100_000 && all_nest_within(99, elements.as_slice()) {
+    let nests = all_nest_within(99, elements.as_slice());
+    made_where(nests, elements)
+}
+
+fn made_where(nests: bool, elements: Values) -> Result<Value, MacroFault>
+    requires { nests ≡ all_nest_within 99 elements }
+    ensures { Gives result (made elements) }
+{
+    if nests && elements.len() <= 100_000 {
         Ok(Value::List(elements))
     } else {
         refused(MacroKind::ArrayLimit)
@@ -137,13 +146,14 @@ fn range(alloc: Global, first: i64, last: i64) -> Result<Value, MacroFault>
 }
 
 // Two numbers, two texts or two arrays.
-fn add(left: Value, right: Value) -> Result<Value, MacroFault>
+fn add(bounded: bool, left: Value, right: Value) -> Result<Value, MacroFault>
+    requires { bounded ≡ true → IsBounded left }
     ensures { Gives result (sum_value left right) }
 {
     match (left, right) {
         (Value::Whole(m), Value::Whole(n)) => sum(m, n),
         (Value::Text(s), Value::Text(t)) => join(s, t),
-        (Value::List(xs), Value::List(ys)) => append(xs, ys),
+        (Value::List(xs), Value::List(ys)) => append(bounded, xs, ys),
         _ => refused(MacroKind::WrongKind),
     }
 }
@@ -156,12 +166,24 @@ fn join(left: Bytes, right: Bytes) -> Result<Value, MacroFault>
     Ok(Value::Text(text))
 }
 
-fn append(left: Values, right: Values) -> Result<Value, MacroFault>
+// Whether at most 99 arrays stand inside one another in both. A left side that is known to hold this is not looked
+// through again, so that a long sum of arrays takes no time beyond the copying.
+#[tactic(auto, using(crate::proofs::Bounds::joining))]
+fn nest_within(bounded: bool, left: &[Value], right: &[Value]) -> bool
+    requires { bounded ≡ true → all_nest_within 99 left.now ≡ true }
+    ensures { result ≡ all_nest_within 99 (left.now ++ right.now) }
+{
+    (bounded || all_nest_within(99, left)) && all_nest_within(99, right)
+}
+
+fn append(bounded: bool, left: Values, right: Values) -> Result<Value, MacroFault>
+    requires { bounded ≡ true → all_nest_within 99 left ≡ true }
     ensures { Gives result (made (left ++ right)) }
 {
+    let nests = nest_within(bounded, left.as_slice(), right.as_slice());
     let mut elements = left;
     elements.append(right)?;
-    made(elements)
+    made_where(nests, elements)
 }
 
 fn is_in(value: &Value, array: &Value) -> Result<Value, MacroFault>
@@ -216,20 +238,22 @@ pub(crate) fn settled<T>(answer: Result<T, MacroFault>) -> Result<Result<T, Macr
     }
 }
 
-// The operators that read both sides first.
+// The operators that read both sides first; bounded says that the left side is known to be within the limits of arrays.
 fn strict_value(
     alloc: Global,
     operator: Operator,
+    bounded: bool,
     left: Value,
     right: Value,
 ) -> Result<Value, MacroFault>
+    requires { bounded ≡ true → IsBounded left }
     ensures { Gives result (strict_value operator left right) }
 {
     match operator {
         Operator::Equal => Ok(Value::Truth(same(&left, &right))),
         Operator::Different => Ok(Value::Truth(!same(&left, &right))),
         Operator::In => is_in(&left, &right),
-        Operator::Add => add(left, right),
+        Operator::Add => add(bounded, left, right),
         _ => of_numbers(alloc, operator, &left, &right),
     }
 }
@@ -281,15 +305,17 @@ fn and_value(left: Valued, right: Valued) -> Result<Value, MacroFault>
 pub(crate) fn apply_value(
     alloc: Global,
     operator: Operator,
+    bounded: bool,
     left: Valued,
     right: Valued,
 ) -> Result<Value, MacroFault>
+    requires { bounded ≡ true → IfOk left IsBounded }
     ensures { Gives result (apply_value operator left right) }
 {
     match operator {
         Operator::Or => or_value(left, right),
         Operator::And => and_value(left, right),
-        _ => strict_value(alloc, operator, left?, right?),
+        _ => strict_value(alloc, operator, bounded, left?, right?),
     }
 }
 

@@ -325,12 +325,14 @@ fn chain_of<'a, 't>(
     let mut found = first;
     let (_, mut rest) = tokens.split_at(0);
     let mut left = most(level, tokens);
+    let mut bounded = false;
     'turns: while left > 0 {
         let Some((operator, after)) = operator_at(level, rest) else {
             return Ok((found, rest));
         };
         let (right, next) = level_of(alloc, env, room, level, after)?;
-        found = apply(alloc, operator, found, right)?;
+        found = apply(alloc, operator, bounded, found, right)?;
+        bounded = true;
         rest = next;
         left -= 1;
     }

@@ -6,7 +6,7 @@ use std::alloc::Global;
 use std::test::Fail;
 
 // Expressions and their printed values, where x is 3, s is "ab", b is true and xs is [1, 2].
-const VALUES: [(&str, &str); 74] = [
+const VALUES: [(&str, &str); 106] = [
     ("7", "7"),
     ("007", "7"),
     ("9223372036854775807", "9223372036854775807"),
@@ -84,10 +84,42 @@ const VALUES: [(&str, &str); 74] = [
     ("-xs[2]", "-2"),
     ("(4:6)[3]", "6"),
     ("1<2 && 2<3 || false", "true"),
+    ("0 || 0", "false"),
+    ("x == 3 || zz", "true"),
+    ("b && x", "true"),
+    ("true && 0", "false"),
+    ("!x == 3", "false"),
+    ("true != true", "false"),
+    ("xs == 1", "false"),
+    ("xs == xs + []", "true"),
+    ("s != \"ab\"", "false"),
+    ("[true, 1] == [1, true]", "false"),
+    ("3 <= 2", "false"),
+    ("2 > 3", "false"),
+    ("3 >= 3", "true"),
+    ("3 - 1 < 3 * 1", "true"),
+    ("s in [\"ab\"]", "true"),
+    ("true in [1]", "false"),
+    ("xs in [[1, 2]]", "true"),
+    ("1 + 1 in 1:3", "true"),
+    ("1 in [1] && 2 in [1]", "false"),
+    ("1:3 == [1, 2, 3]", "true"),
+    ("1:2 + 1", "[1, 2, 3]"),
+    ("2 * 3:7", "[6, 7]"),
+    ("5 - 7", "-2"),
+    ("-0", "0"),
+    ("0 * -5", "0"),
+    ("[] + []", "[]"),
+    ("[[]]", "[[]]"),
+    ("[\"a\"][1]", "a"),
+    ("[true][1]", "true"),
+    ("xs[xs[1]]", "1"),
+    ("(xs + [3])[3]", "3"),
+    ("[5][1] + 1", "6"),
 ];
 
 // Expressions without a value, and why.
-const FAULTS: [(&str, MacroKind); 51] = [
+const FAULTS: [(&str, MacroKind); 96] = [
     ("", MacroKind::BadExpression),
     ("1 +", MacroKind::BadExpression),
     ("1 2", MacroKind::BadExpression),
@@ -139,6 +171,51 @@ const FAULTS: [(&str, MacroKind); 51] = [
     ("3037000500 * 3037000500", MacroKind::Overflow),
     ("xs[0]", MacroKind::OutOfRange),
     ("xs[3]", MacroKind::OutOfRange),
+    ("()", MacroKind::BadExpression),
+    ("* 1", MacroKind::BadExpression),
+    ("1 ==", MacroKind::BadExpression),
+    ("x y", MacroKind::BadExpression),
+    ("1.5", MacroKind::BadExpression),
+    ("@{x}", MacroKind::BadExpression),
+    ("[1 2]", MacroKind::BadExpression),
+    ("xs[1, 2]", MacroKind::BadExpression),
+    ("xs[1", MacroKind::BadExpression),
+    ("-!1", MacroKind::BadExpression),
+    ("1 < 2 == true", MacroKind::BadExpression),
+    ("1 in [1] in [true]", MacroKind::BadExpression),
+    ("zz == zz", MacroKind::Unknown),
+    ("zz in 1", MacroKind::Unknown),
+    ("5[zz]", MacroKind::Unknown),
+    ("\"a\" < zz", MacroKind::Unknown),
+    ("s + xs", MacroKind::WrongKind),
+    ("true + \"a\"", MacroKind::WrongKind),
+    ("true - 1", MacroKind::WrongKind),
+    ("xs - xs", MacroKind::WrongKind),
+    ("\"a\" * 2", MacroKind::WrongKind),
+    ("2 * true", MacroKind::WrongKind),
+    ("-true", MacroKind::WrongKind),
+    ("-xs", MacroKind::WrongKind),
+    ("true < false", MacroKind::WrongKind),
+    ("xs >= xs", MacroKind::WrongKind),
+    ("1 > \"1\"", MacroKind::WrongKind),
+    ("1 <= xs", MacroKind::WrongKind),
+    ("s:3", MacroKind::WrongKind),
+    ("1:xs", MacroKind::WrongKind),
+    ("1 in \"1\"", MacroKind::WrongKind),
+    ("1 in true", MacroKind::WrongKind),
+    ("xs || true", MacroKind::WrongKind),
+    ("0 || xs", MacroKind::WrongKind),
+    ("\"a\" && true", MacroKind::WrongKind),
+    ("1 && xs", MacroKind::WrongKind),
+    ("5[1]", MacroKind::WrongKind),
+    ("true[1]", MacroKind::WrongKind),
+    ("xs[\"1\"]", MacroKind::WrongKind),
+    ("xs[xs]", MacroKind::WrongKind),
+    ("9223372036854775807 * 2 + zz", MacroKind::Overflow),
+    ("-9223372036854775807 - 2", MacroKind::Overflow),
+    ("xs[-1]", MacroKind::OutOfRange),
+    ("[][1]", MacroKind::OutOfRange),
+    ("xs[9223372036854775807]", MacroKind::OutOfRange),
 ];
 
 fn bytes(alloc: Global, text: &[u8]) -> Result<Bytes, MacroFault> {
@@ -197,58 +274,82 @@ fn pairs(alloc: Global, open: &[u8], close: &[u8], many: u32) -> Result<Bytes, M
     Ok(text)
 }
 
+// The kind of what is wrong, or None where there is a value.
+fn kind_of(alloc: Global, text: &[u8], env: &Env) -> Result<Option<MacroKind>, MacroFault> {
+    match eval(alloc, text, env) {
+        Ok(_) => Ok(None),
+        Err(MacroFault::Refused { kind }) => Ok(Some(kind)),
+        Err(MacroFault::NoMemory) => Err(MacroFault::NoMemory),
+    }
+}
+
+// What opens, what closes, how often, and the kind of what is wrong.
+const BRACKETS: [(&str, &str, u32, Option<MacroKind>); 10] = [
+    ("(", ")", 100, None),
+    ("(", ")", 101, Some(MacroKind::NestDeep)),
+    ("[", "]", 100, None),
+    ("[", "]", 101, Some(MacroKind::NestDeep)),
+    ("[(", ")]", 50, None),
+    ("[(", ")]", 51, Some(MacroKind::NestDeep)),
+    ("(", "", 100, Some(MacroKind::BadExpression)),
+    ("(", "", 101, Some(MacroKind::NestDeep)),
+    ("$(", ")", 101, Some(MacroKind::BadExpression)),
+    ("", " + (1)", 200, None),
+];
+
 #[test]
-fn brackets_and_arrays_have_limits(rt: HostRuntime) -> Result<(), Fail> {
+fn brackets_have_a_limit(rt: HostRuntime) -> Result<(), Fail> {
     let env = env(rt.alloc())?;
-    let fits = pairs(rt.alloc(), b"(", b")", 100)?;
-    assert!(rt; matches!(eval(rt.alloc(), fits.as_slice(), &env), Ok(Value::Whole(1))));
-    let deep = pairs(rt.alloc(), b"(", b")", 101)?;
-    assert!(rt;
-        matches!(
-            eval(rt.alloc(), deep.as_slice(), &env),
-            Err(MacroFault::Refused {
-                kind: MacroKind::NestDeep
-            })
-        )
-    );
-    let arrays = pairs(rt.alloc(), b"[", b"]", 100)?;
-    assert!(rt;
-        matches!(
-            eval(rt.alloc(), arrays.as_slice(), &env),
-            Ok(Value::List(_))
-        )
-    );
-    let mut one_more = Env::new(rt.alloc());
-    one_more.set(b"a", eval(rt.alloc(), arrays.as_slice(), &env)?)?;
-    assert!(rt;
-        matches!(
-            eval(rt.alloc(), b"[a]", &one_more),
-            Err(MacroFault::Refused {
-                kind: MacroKind::ArrayLimit
-            })
-        )
-    );
-    assert!(rt;
-        matches!(
-            eval(rt.alloc(), b"1:100001", &env),
-            Err(MacroFault::Refused {
-                kind: MacroKind::ArrayLimit
-            })
-        )
-    );
-    assert!(rt;
-        matches!(
-            eval(rt.alloc(), b"(1:50000) + (1:50001)", &env),
-            Err(MacroFault::Refused {
-                kind: MacroKind::ArrayLimit
-            })
-        )
-    );
+    for (open, close, many, want) in BRACKETS.iter() {
+        let text = pairs(rt.alloc(), open.as_bytes(), close.as_bytes(), *many)?;
+        assert_eq!(rt; kind_of(rt.alloc(), text.as_slice(), &env)?, *want);
+    }
+    Ok(())
+}
+
+// Expressions over arrays at their limits, where a has 100 arrays inside one another, and the kind of what is wrong.
+const ARRAYS: [(&str, Option<MacroKind>); 8] = [
+    ("a", None),
+    ("a + a", None),
+    ("[a]", Some(MacroKind::ArrayLimit)),
+    ("[] + [a]", Some(MacroKind::ArrayLimit)),
+    ("1:100000", None),
+    ("1:100001", Some(MacroKind::ArrayLimit)),
+    ("(1:50000) + (1:50001)", Some(MacroKind::ArrayLimit)),
+    ("(1:50000) + (1:50000) + [] == 1", None),
+];
+
+#[test]
+fn arrays_have_limits(rt: HostRuntime) -> Result<(), Fail> {
+    let mut env = env(rt.alloc())?;
+    let text = pairs(rt.alloc(), b"[", b"]", 100)?;
+    let deep = eval(rt.alloc(), text.as_slice(), &env)?;
+    env.set(b"a", deep)?;
+    for (text, want) in ARRAYS.iter() {
+        assert_eq!(rt; kind_of(rt.alloc(), text.as_bytes(), &env)?, *want);
+    }
     assert!(rt;
         matches!(
             eval(rt.alloc(), b"100000 in (1:50000) + (50001:100000)", &env),
             Ok(Value::Truth(true))
         )
     );
+    Ok(())
+}
+
+#[test]
+fn an_environment_is_a_map(rt: HostRuntime) -> Result<(), Fail> {
+    let mut env = Env::new(rt.alloc());
+    assert!(rt; env.get(b"a").is_none());
+    env.set(b"a", Value::Whole(1))?;
+    env.set(b"ab", Value::Truth(true))?;
+    assert!(rt; matches!(env.get(b"a"), Some(Value::Whole(1))));
+    assert!(rt; env.get(b"A").is_none());
+    env.set(b"a", Value::Whole(2))?;
+    assert!(rt; matches!(env.get(b"a"), Some(Value::Whole(2))));
+    env.unset(b"b");
+    env.unset(b"a");
+    assert!(rt; env.get(b"a").is_none());
+    assert!(rt; matches!(env.get(b"ab"), Some(Value::Truth(true))));
     Ok(())
 }

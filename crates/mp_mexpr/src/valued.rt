@@ -1,6 +1,6 @@
 // The parts of an expression, read as their values.
-ghost use Rattle.std.specs.Prelude.{◌≡◌, IfOk, Ok};
-ghost use Rattle.mp_mexpr.specs.Meaning.{digits_value, name_value, negative_value, not_value, apply_value, index_value, with_element, array_value};
+ghost use Rattle.std.specs.Prelude.{◌≡◌, true, IfOk, Ok};
+ghost use Rattle.mp_mexpr.specs.Meaning.{IsBounded, digits_value, name_value, negative_value, not_value, apply_value, index_value, with_element, array_value};
 
 use crate::env::Env;
 use crate::meaning;
@@ -48,12 +48,14 @@ pub(crate) fn negation(operand: Valued) -> Result<Valued, NoMemory>
 pub(crate) fn apply(
     alloc: Global,
     operator: Operator,
+    bounded: bool,
     left: Valued,
     right: Valued,
 ) -> Result<Valued, NoMemory>
+    requires { bounded ≡ true → IfOk left IsBounded }
     ensures { IfOk result (λ v. v ≡ apply_value operator left right) }
 {
-    settled(meaning::apply_value(alloc, operator, left, right))
+    settled(meaning::apply_value(alloc, operator, bounded, left, right))
 }
 
 #[tactic(auto, using(crate::proofs::Operators::settling))]

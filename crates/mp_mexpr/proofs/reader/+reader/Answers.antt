@@ -1,21 +1,23 @@
-use Rattle.std.proofs.Common.{◌-◌, sym, ap, ◌∙◌, arith, Some, None, List}
+use Rattle.std.proofs.Common.{◌-◌, subst, sym, ap, ◌∙◌, arith, Some, None, List}
+use Rattle.std.specs.Prelude.{IfOk}
 use Rattle.std.proofs.lemmas.Result.{err_from_is_err_and}
 use Rattle.mp_mexpr.specs.declared.token.Mark.TheVariants as m
 use Rattle.mp_mexpr.specs.Tokens.{Tok, toks}
-use Rattle.mp_mexpr.specs.Meaning.{Valued, apply_value, with_element, index_value}
+use Rattle.mp_mexpr.specs.Meaning.{Valued, IsBounded, apply_value, with_element, index_value}
 use Rattle.mp_mexpr.specs.Grammar.{values, past, operator_at, repeated, applied, extended, indexed, level_at, inside_at}
 use Rattle.mp_mexpr.proofs.Reading.{repeated-end, repeated-none, repeated-next, repeated-fails, applied-is, extended-is, indexed-is, Reads-fails}
+use Rattle.mp_mexpr.proofs.Bounds.{apply_value-bounded}
 use Rattle.mp_mexpr.proofs.reader.+reader.Goals as goal
 
 pub chain_of-returns-in_default : goal.chain_of-returns-in_default
 chain_of-returns-in_default t c =
     let v = values c.args.env.now in
-    sym c.turns.invariant ∙ repeated-end (operator_at c.args.level) (applied v (level_at v (inside_at v c.args.room) c.args.level)) c.turns.left c.turns.found (toks c.turns.rest.now) c.in_default.ensures
+    sym c.turns.invariant.told ∙ repeated-end (operator_at c.args.level) (applied v (level_at v (inside_at v c.args.room) c.args.level)) c.turns.left c.turns.found (toks c.turns.rest.now) c.in_default.ensures
 
 pub chain_of-returns : goal.chain_of-returns
 chain_of-returns t c =
     let v = values c.args.env.now in
-    sym c.turns.invariant ∙ repeated-none (operator_at c.args.level) (applied v (level_at v (inside_at v c.args.room) c.args.level)) c.turns.left c.turns.found (toks c.turns.rest.now) (omega arith)
+    sym c.turns.invariant.told ∙ repeated-none (operator_at c.args.level) (applied v (level_at v (inside_at v c.args.room) c.args.level)) c.turns.left c.turns.found (toks c.turns.rest.now) (omega arith)
 
 pub chain_of-returns-in_err-right : goal.chain_of-returns-in_err-right
 chain_of-returns-in_err-right t c =
@@ -23,15 +25,19 @@ chain_of-returns-in_err-right t c =
     let q = err_from_is_err_and c.from_residual.result c.from_residual.ensures.1 in
     rw (q.1, q.2)
     (Reads-fails c.in_err-right.field-0.0 _ _
-    (λ none. repeated-fails (operator_at c.args.level) (applied v (level_at v (inside_at v c.args.room) c.args.level)) c.turns.left c.turns.found (toks c.turns.rest.now) (c.in-Some.operator, toks c.in-Some.after.now) _ c.turns.invariant c.turns-test.true c.in-Some.ensures (applied-is v (level_at v (inside_at v c.args.room) c.args.level) c.turns.found (c.in-Some.operator, toks c.in-Some.after.now) None none))
+    (λ none. repeated-fails (operator_at c.args.level) (applied v (level_at v (inside_at v c.args.room) c.args.level)) c.turns.left c.turns.found (toks c.turns.rest.now) (c.in-Some.operator, toks c.in-Some.after.now) _ c.turns.invariant.told c.turns-test.true c.in-Some.ensures (applied-is v (level_at v (inside_at v c.args.room) c.args.level) c.turns.found (c.in-Some.operator, toks c.in-Some.after.now) None none))
     c.in_err-right.ensures)
 
 pub chain_of-turns-preserved : goal.chain_of-turns-preserved
 chain_of-turns-preserved t c =
     let v = values c.args.env.now in
     let read : Valued × List Tok = (c.in_ok-right.right, toks c.in_ok-right.next.now) in
-    ap (λ x. repeated (c.turns.left - 1) (operator_at c.args.level) (applied v (level_at v (inside_at v c.args.room) c.args.level)) x (toks c.in_ok-right.next.now)) c.in_ok-found.ensures
-    ∙ repeated-next (operator_at c.args.level) (applied v (level_at v (inside_at v c.args.room) c.args.level)) c.turns.left c.turns.found (toks c.turns.rest.now) (c.in-Some.operator, toks c.in-Some.after.now) (apply_value c.in-Some.operator c.turns.found c.in_ok-right.right, toks c.in_ok-right.next.now) _ c.turns.invariant c.turns-test.true c.in-Some.ensures (applied-is v (level_at v (inside_at v c.args.room) c.args.level) c.turns.found (c.in-Some.operator, toks c.in-Some.after.now) (Some read) c.in_ok-right.ensures)
+    record {
+      bounded = λ _. subst (λ v. IfOk v IsBounded) (sym c.in_ok-found.ensures) (apply_value-bounded c.in-Some.operator c.turns.found c.in_ok-right.right);
+      told =
+          ap (λ x. repeated (c.turns.left - 1) (operator_at c.args.level) (applied v (level_at v (inside_at v c.args.room) c.args.level)) x (toks c.in_ok-right.next.now)) c.in_ok-found.ensures
+          ∙ repeated-next (operator_at c.args.level) (applied v (level_at v (inside_at v c.args.room) c.args.level)) c.turns.left c.turns.found (toks c.turns.rest.now) (c.in-Some.operator, toks c.in-Some.after.now) (apply_value c.in-Some.operator c.turns.found c.in_ok-right.right, toks c.in_ok-right.next.now) _ c.turns.invariant.told c.turns-test.true c.in-Some.ensures (applied-is v (level_at v (inside_at v c.args.room) c.args.level) c.turns.found (c.in-Some.operator, toks c.in-Some.after.now) (Some read) c.in_ok-right.ensures);
+    }
 
 pub more_elements-returns-in_default : goal.more_elements-returns-in_default
 more_elements-returns-in_default t c =

@@ -1,6 +1,8 @@
-use Rattle.std.proofs.Common.{◌≡◌, ◌+◌, ◌*◌, length}
+use Rattle.std.proofs.Common.{◌≡◌, ◌+◌, ◌*◌, length, true}
+use Rattle.std.specs.Prelude.{IfOk}
 use Rattle.mp_mexpr.specs.declared.token.Mark.TheVariants as m
 use Rattle.mp_mexpr.specs.Tokens.{toks}
+use Rattle.mp_mexpr.specs.Meaning.{IsBounded}
 use Rattle.mp_mexpr.specs.Grammar.{values, past, operator_at, most, repeated, applied, indexed, extended, level_at, inside_at}
 use Rattle.mp_mexpr.proofs.reader.+reader.Given as goal
 
@@ -62,7 +64,10 @@ abbrev pub invariant-chain_of-turns : goal.invariant-chain_of-turns
 invariant-chain_of-turns l =
     let v = values l.env in
     let step = applied v (level_at v (inside_at v l.room) l.level) in
-    repeated l.left (operator_at l.level) step l.found (toks l.rest) ≡ repeated (most l.level (toks l.tokens)) (operator_at l.level) step l.initial.found (toks l.tokens)
+    record {
+      bounded : l.bounded ≡ true → IfOk l.found IsBounded;
+      told : repeated l.left (operator_at l.level) step l.found (toks l.rest) ≡ repeated (most l.level (toks l.tokens)) (operator_at l.level) step l.initial.found (toks l.tokens);
+    }
 
 abbrev pub decreases-chain_of-turns : goal.decreases-chain_of-turns
 decreases-chain_of-turns l = l.left

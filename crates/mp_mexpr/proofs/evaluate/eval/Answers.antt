@@ -1,0 +1,5 @@
+use Rattle.mp_mexpr.proofs.Readings.{gives_meant}
+use Rattle.mp_mexpr.proofs.evaluate.eval.Goals as goal
+
+pub returns-clause-by_grammar : goal.returns-clause-by_grammar
+returns-clause-by_grammar c = gives_meant c.args.env.now c.args.expr.now c.value_of_bytes.result c.value_of_bytes.ensures
