@@ -274,14 +274,14 @@ fn files_are_refused(rt: HostRuntime) -> Result<(), Fail> {
 #[test]
 fn the_deepest_files_fit_the_stack(rt: HostRuntime) -> Result<(), Fail> {
     let mut text = Bytes::new(rt.alloc());
-    for _ in 0..14 {
+    for _ in 0..50 {
         text.add(b"@#if 1\n@#for i in [1]\n")?;
     }
     text.add(b"@#include \"m\"\n")?;
-    for _ in 0..14 {
+    for _ in 0..50 {
         text.add(b"@#endfor\n@#endif\n")?;
     }
     let answer = answer(rt.alloc(), text.as_slice(), b"");
-    is_refused(&rt, answer, MacroKind::IncludeDeep, b"m", 29);
+    is_refused(&rt, answer, MacroKind::IncludeDeep, b"m", 101);
     Ok(())
 }
