@@ -1,5 +1,5 @@
 -- The parts of a node.
-use Rattle.std.proofs.Common.{◌≡◌, ℕ, ◌+◌, List, sym, ap, ◌∙◌}
+use Rattle.std.proofs.Common.{◌≡◌, List, sym, ap, ◌∙◌}
 use Rattle.mp_directive.specs.Tree as t
 use Rattle.mp_directive.specs.Shown.{node_of, nodes_of, branches_of}
 use Rattle.mp_directive.specs.declared.tree.Node.{Node}

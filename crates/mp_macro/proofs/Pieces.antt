@@ -1,13 +1,11 @@
 -- The pieces of a line, one after the other.
-use Rattle.std.proofs.Common.{◌≡◌, ℕ, zero, suc, ◌+◌, ◌≤◌, ◌<◌, List, [], ◌∷◌, ◌++◌, take, drop, length, Option, Some, None, Result, Ok, Err, false, refl, sym, ap, subst, ◌∙◌, arith}
+use Rattle.std.proofs.Common.{◌≡◌, ℕ, zero, suc, ◌+◌, List, [], ◌∷◌, ◌++◌, take, drop, Option, Some, None, Ok, Err, false, refl, sym, ap, subst, ◌∙◌, arith}
 use Rattle.std.proofs.lemmas.Grind.{common_steps}
-use native.Mathlib.Numerals.{unary_clauses}
-use Rattle.mp_base.specs.declared.kinds.MacroKind.{MacroKind}
 use Rattle.mp_base.specs.declared.kinds.MacroKind.TheVariants as k
 use Rattle.mp_directive.specs.Results.{◌>>=◌}
 use Rattle.mp_mexpr.specs.declared.fault.MacroFault.{MacroFault}
 use Rattle.mp_mexpr.specs.declared.fault.MacroFault.TheVariants as f
-use Rattle.mp_macro.specs.Plain.{Piece, Verbatim, Expression, Unclosed, mark_at, end_at, expression_then, pieces_by, pieces_from, pieces}
+use Rattle.mp_macro.specs.Plain.{Piece, Verbatim, Expression, mark_at, end_at, expression_then, pieces_by, pieces_from, pieces}
 use Rattle.mp_macro.specs.Says.{Makes}
 use Rattle.mp_macro.specs.declared.state.State as c
 use Rattle.mp_macro.specs.States.{State, Outcome, after_piece, after_pieces, written}

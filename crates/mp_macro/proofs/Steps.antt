@@ -1,5 +1,5 @@
 -- What parts of a file say one after the other.
-use Rattle.std.proofs.Common.{◌≡◌, ℕ, zero, suc, ◌+◌, ◌-◌, ◌≤◌, ◌^◌, min, List, [], ◌∷◌, length, Result, Ok, Err, Some, None, Bool, true, false, refl, sym, ap, ◌∙◌, subst, arith, if◌then◌else◌}
+use Rattle.std.proofs.Common.{◌≡◌, ℕ, zero, suc, ◌+◌, ◌-◌, ◌≤◌, min, List, [], ◌∷◌, length, Result, Ok, Err, Some, true, refl, sym, ap, ◌∙◌, subst, arith, if◌then◌else◌}
 use Rattle.mp_base.specs.declared.kinds.MacroKind.{MacroKind}
 use Rattle.mp_base.specs.declared.kinds.MacroKind.TheVariants as k
 use Rattle.mp_outside.specs.Outside.{Outside, Listing, Later, lookup}
@@ -13,7 +13,7 @@ use Rattle.mp_directive.specs.Tree as t'
 use Rattle.mp_directive.specs.Shown.{nodes_of}
 use Rattle.mp_directive.specs.Groups.{groups}
 use Rattle.mp_macro.specs.States.{State, Outcome, counted, named, holds, elements, turn_begun}
-use Rattle.mp_macro.specs.Expansion.{Refusal, Macro, Absent, Including, Step, at, turns, restored, after_node, after_nodes, after_branches, tree, after_file, contents, include}
+use Rattle.mp_macro.specs.Expansion.{Refusal, Macro, Including, Step, at, turns, restored, after_node, after_nodes, after_branches, tree, after_file, contents, include}
 use Rattle.mp_macro.specs.Says.{state_of, Makes, Placed, Refuses, Gives, Told, Says}
 use Rattle.mp_macro.specs.declared.fault.Stop.{Stop}
 use Rattle.mp_macro.specs.declared.fault.Stop.TheVariants as s
@@ -149,7 +149,7 @@ module _ (room : ℕ) (file : List ℕ) (line : ℕ) (name array : List ℕ) (bo
       let second : Listing → Step = λ l. first l >>= after_nodes (include l room) file body in
       let third : Listing → Step = λ l. second l >>= turned l more in
       says-after z a a b (λ l. third l >>= restored name z) (looped z) (Err e) (later-refl a)
-          (λ l t. loop-rest l vs start rest z st elems same (told l t) ∙ ap (λ x. turned l x st >>= restored name z) split)
+      (λ l t. loop-rest l vs start rest z st elems same (told l t) ∙ ap (λ x. turned l x st >>= restored name z) split)
       (stops z z a b third (λ l. restored name z) e
       (stops z z a b second (λ l. turned l more) e
       (stops z z a b first (λ l. after_nodes (include l room) file body) e
@@ -160,7 +160,7 @@ module _ (room : ℕ) (file : List ℕ) (line : ℕ) (name array : List ℕ) (bo
       let first : Listing → Step = λ l. after_nodes (include l room) file body s1 in
       let second : Listing → Step = λ l. first l >>= turned l more in
       says-after z a b d (λ l. second l >>= restored name z) (looped z) (Err e) later
-          (λ l t. loop-rest l vs start rest z st elems same (told l t) ∙ ap (λ x. turned l x st >>= restored name z) split ∙ ap (λ x. ((at file line x >>= after_nodes (include l room) file body) >>= turned l more) >>= restored name z) begun)
+      (λ l t. loop-rest l vs start rest z st elems same (told l t) ∙ ap (λ x. turned l x st >>= restored name z) split ∙ ap (λ x. ((at file line x >>= after_nodes (include l room) file body) >>= turned l more) >>= restored name z) begun)
       (stops z z b d second (λ l. restored name z) e
       (stops new z b d first (λ l. turned l more) e says))
 

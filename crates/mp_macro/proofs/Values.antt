@@ -1,12 +1,11 @@
 -- The value of an expression is its meaning.
-use Rattle.std.proofs.Common.{◌≡◌, ℕ, List, Bool, true, false, not, Option, Some, None, Result, Ok, Err, refl, sym, ap, ◌∙◌, rules, ◌∷◌}
+use Rattle.std.proofs.Common.{◌≡◌, ℕ, List, Bool, true, false, Option, Some, None, Ok, refl, ap, ◌∙◌, rules, ◌∷◌}
 use Rattle.std.specs.Str.{IsUtf8, is_utf8}
-use Rattle.std.proofs.lemmas.Str.{IsUtf8-from_is_utf8, is_utf8-from_IsUtf8}
+use Rattle.std.proofs.lemmas.Str.{IsUtf8-from_is_utf8}
 use Rattle.mp_mexpr.specs.Environments.{Environment, value_in}
-use Rattle.mp_mexpr.specs.Tokens.{tokens, is_deep}
 use Rattle.mp_mexpr.specs.Meaning.{negative_value, not_value, apply_value, index_value, with_element, array_value, elements_of}
 use Rattle.mp_mexpr.specs.Syntax.{Expr, Exprs, Number, Quote, Constant, Named, Array, Negative, Not, Apply, Index, Empty, With, value_of, values_of}
-use Rattle.mp_mexpr.specs.Grammar.{meaning, expression_of, value_or_bad}
+use Rattle.mp_mexpr.specs.Grammar.{meaning, value_or_bad}
 use Rattle.mp_mexpr.specs.Values.{row_items}
 use Rattle.mp_mexpr.specs.declared.value.Value.{Value, Row_of-Value, items-the_row-Value, end_of-Value, more_of-Value}
 use Rattle.mp_mexpr.specs.declared.value.Value.TheVariants as v

@@ -1,6 +1,6 @@
 -- The expansion of a file (Dynare manual, "Macro processing language"; scope, order of refusals and limits are modpath's
 -- own).
-use Rattle.std.specs.Prelude.{ℕ, zero, suc, ◌+◌, List, [], ◌∷◌, length, nat_le, if◌then◌else◌, Option, Some, None, Result, Ok, Err}
+use Rattle.std.specs.Prelude.{ℕ, zero, suc, List, [], ◌∷◌, length, nat_le, if◌then◌else◌, Option, Some, None, Result, Ok, Err}
 use Rattle.mp_base.specs.declared.kinds.MacroKind.{MacroKind}
 use Rattle.mp_base.specs.declared.kinds.MacroKind.TheVariants.{FileLong, IncludeDeep}
 use Rattle.mp_outside.specs.Outside.{Listing, lookup}

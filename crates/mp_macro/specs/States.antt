@@ -1,5 +1,5 @@
 -- What one line does.
-use Rattle.std.specs.Prelude.{ℕ, ◌+◌, List, [], ◌∷◌, ◌++◌, length, Bool, true, false, not, ◌&&◌, nat_lt, nat_le, if◌then◌else◌, Option, Some, None, Result, Ok, Err, is_some, is_none, pos}
+use Rattle.std.specs.Prelude.{ℕ, ◌+◌, List, [], ◌∷◌, ◌++◌, length, Bool, true, not, ◌&&◌, nat_lt, nat_le, if◌then◌else◌, Option, Some, None, Result, Ok, Err, is_some, pos}
 use Rattle.std.specs.Str.{is_utf8}
 use Rattle.mp_base.specs.declared.kinds.MacroKind.{MacroKind}
 use Rattle.mp_base.specs.declared.kinds.MacroKind.TheVariants.{BadExpression, WrongKind, UserError, FileName, TurnsLimit, TextLimit}

@@ -240,7 +240,7 @@ fn files_expand(rt: HostRuntime) -> Result<(), Fail> {
 
 fn is_refused(
     rt: &impl Abort,
-    answer: Result<Bytes, ExpandFault>,
+    answer: &Result<Bytes, ExpandFault>,
     kind: MacroKind,
     file: &[u8],
     line: u32,
@@ -253,9 +253,9 @@ fn is_refused(
                 line: l,
             },
         ) => {
-            assert_eq!(rt; k, kind);
+            assert_eq!(rt; *k, kind);
             assert_eq!(rt; f.bytes(), file);
-            assert_eq!(rt; l, line);
+            assert_eq!(rt; *l, line);
         }
         _ => assert!(rt; false),
     }
@@ -265,7 +265,7 @@ fn is_refused(
 fn files_are_refused(rt: HostRuntime) -> Result<(), Fail> {
     for (main, beside, kind, file, line) in REFUSALS.iter() {
         let answer = answer(rt.alloc(), main.as_bytes(), beside.as_bytes());
-        is_refused(&rt, answer, *kind, file.as_bytes(), *line);
+        is_refused(&rt, &answer, *kind, file.as_bytes(), *line);
     }
     Ok(())
 }
@@ -282,6 +282,6 @@ fn the_deepest_files_fit_the_stack(rt: HostRuntime) -> Result<(), Fail> {
         text.add(b"@#endfor\n@#endif\n")?;
     }
     let answer = answer(rt.alloc(), text.as_slice(), b"");
-    is_refused(&rt, answer, MacroKind::IncludeDeep, b"m", 101);
+    is_refused(&rt, &answer, MacroKind::IncludeDeep, b"m", 101);
     Ok(())
 }

@@ -1,15 +1,13 @@
-use Rattle.std.proofs.Common.{◌≡◌, ◌+◌, ◌-◌, Ok, Err, refl, sym, ap, ◌∙◌, subst, arith}
+use Rattle.std.proofs.Common.{◌≡◌, Ok, Err, sym, ap, ◌∙◌, subst, arith}
 use Rattle.std.proofs.lemmas.Result.{err_from_is_err_and}
-use Rattle.mp_outside.specs.Outside.{Listing, lookup}
-use Rattle.mp_directive.specs.Results.{◌>>=◌}
-use Rattle.mp_directive.specs.Tree.{Loop, weight, nodes_weight, branches_weight}
+use Rattle.mp_directive.specs.Tree.{Loop, weight}
 use Rattle.mp_directive.specs.Groups.{groups}
 use Rattle.mp_directive.specs.Shown.{node_of, nodes_of, branches_of}
 use Rattle.mp_macro.specs.States.{counted, named, elements, turn_begun}
-use Rattle.mp_macro.specs.Expansion.{at, contents, after_file, after_node, after_nodes, after_branches, include, tree, turns, restored}
-use Rattle.mp_macro.specs.Says.{state_of, Gives, Says}
+use Rattle.mp_macro.specs.Expansion.{after_node, after_branches, include, tree}
+use Rattle.mp_macro.specs.Says.{state_of, Gives}
 use Rattle.mp_macro.proofs.Parts.{choice-of, loop-of}
-use Rattle.mp_macro.proofs.Steps.{later-refl, says-after, stops, refused, makes-refused, makes-ok, gives-ok, own, loop-is, deep-says, count-stops, fetch-stops, tree-stops, include-goes-on, turn-stops, body-stops, loop-ends}
+use Rattle.mp_macro.proofs.Steps.{later-refl, says-after, makes-ok, gives-ok, deep-says, count-stops, fetch-stops, tree-stops, include-goes-on, turn-stops, body-stops, loop-ends}
 use Rattle.mp_macro.proofs.expansion.+expansion.Goals as goal
 
 pub expand_node-expand_branches-requires : goal.expand_node-expand_branches-requires

@@ -1,8 +1,7 @@
-use Rattle.std.proofs.Common.{◌≡◌, ℕ, ◌+◌, ◌*◌, ◌^◌, ◌≤◌, length, Some}
+use Rattle.std.proofs.Common.{◌≡◌, ◌+◌, ◌*◌, ◌^◌, ◌≤◌, length, Some}
 use Rattle.mp_outside.specs.Outside.{Listing, Later}
 use Rattle.mp_directive.specs.Tree.{weight, nodes_weight, branches_weight}
 use Rattle.mp_directive.specs.Shown.{node_of, nodes_of, branches_of}
-use Rattle.mp_directive.specs.Results.{◌>>=◌}
 use Rattle.mp_macro.specs.Expansion.{after_nodes, after_branches, turns, include}
 use Rattle.mp_macro.specs.Says.{state_of}
 use Rattle.mp_macro.proofs.expansion.+expansion.Given as goal

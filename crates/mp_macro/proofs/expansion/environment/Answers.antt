@@ -1,4 +1,3 @@
-use Rattle.std.proofs.Common.{◌∙◌, sym}
 use Rattle.mp_macro.proofs.Named.{define-turn}
 use Rattle.mp_macro.proofs.expansion.environment.Goals as goal
 

@@ -1,6 +1,5 @@
-use Rattle.std.proofs.Common.{sym, ap, subst, ◌∙◌, ◌+◌, drop, take, false}
+use Rattle.std.proofs.Common.{sym, subst}
 use Rattle.std.proofs.lemmas.Result.{err_from_is_err_and}
-use Rattle.mp_macro.specs.Plain.{end_at}
 use Rattle.mp_macro.specs.Says.{state_of, Makes}
 use Rattle.mp_macro.proofs.Pieces.{line-err, line-piece, line-open, value-err, value-next, line-last}
 use Rattle.mp_macro.proofs.plain.write_line.Goals as goal

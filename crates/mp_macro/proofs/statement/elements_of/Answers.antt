@@ -1,4 +1,4 @@
-use Rattle.std.proofs.Common.{sym, ap, ◌∙◌}
+use Rattle.std.proofs.Common.{ap, ◌∙◌}
 use Rattle.mp_mexpr.specs.Meaning.{elements_of}
 use Rattle.mp_macro.proofs.Values.{elements-is}
 use Rattle.mp_macro.proofs.statement.elements_of.Goals as goal
