@@ -3,3 +3,4 @@ pub mod Trees
 pub mod Stacks
 pub mod Weights
 pub mod Turns
+pub mod Flat

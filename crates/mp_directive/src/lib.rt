@@ -5,6 +5,7 @@ pub mod content;
 pub mod fault;
 pub mod groups;
 pub mod keyword;
+pub mod laws;
 pub mod scan;
 pub mod tree;
 
@@ -12,5 +13,6 @@ pub use content::{Condition, Statement};
 pub use fault::TreeFault;
 pub use groups::tree_of;
 pub use keyword::Keyword;
+pub use laws::lines_law;
 pub use scan::{begins_comment, quoted_after};
 pub use tree::{Branch, Head, Node, parts_of};

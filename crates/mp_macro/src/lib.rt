@@ -3,6 +3,7 @@
 
 pub mod expansion;
 pub mod fault;
+pub mod laws;
 pub mod plain;
 pub mod reading;
 pub mod state;
@@ -10,6 +11,7 @@ pub mod statement;
 
 pub use expansion::expand;
 pub use fault::ExpandFault;
+pub use laws::value_law;
 
 #[cfg(test)]
 mod tests;
