@@ -1,14 +1,15 @@
 -- A walk over several points is the walk over the first ones, and then over the others.
-use Rattle.std.proofs.Common.{◌≡◌, ℕ, ◌+◌, ◌<◌, ◌≤◌, List, [], ◌∷◌, ◌++◌, length, drop, get_or, Option, Some, None, Result, Ok, Err, refl, sym, ap, subst, ◌∙◌}
+use Rattle.std.proofs.Common.{◌≡◌, ℕ, ◌+◌, ◌<◌, ◌≤◌, List, [], ◌∷◌, ◌++◌, length, drop, get_or, Option, Some, None, Result, Ok, Err, sym, ap, subst, ◌∙◌}
 use Rattle.std.specs.Prelude.{IsErrAnd}
 use Rattle.std.proofs.Math.ListN.{drop_of_length-le}
 use Rattle.std.proofs.lemmas.List.{drop_more}
-use Rattle.mp_declared.specs.Declared.{Point, Fault}
+use Rattle.mp_declared.specs.Points.{Point}
+use Rattle.mp_declared.specs.Declared.{Fault}
 use Rattle.mp_decl.specs.declared.known.Known.{Known}
 use Rattle.mp_decl.specs.declared.fault.DeclFault.{DeclFault}
 use Rattle.mp_decl.specs.declared.fault.DeclFault.TheVariants as f
 use Rattle.mp_decl.specs.Walk.{walk, unless, point_fault, with_point}
-use Rattle.mp_decl.specs.Walks.{Stops, Walks}
+use Rattle.mp_decl.specs.Walks.{Stops, Went, Walks}
 
 went-by : (k g : Known) (p : Point) (ps qs : List Point) (r : Option Fault) → (walk (with_point k p) ps ≡ Ok g → walk (with_point k p) (ps ++ qs) ≡ walk g qs) → unless r (walk (with_point k p) ps) ≡ Ok g → unless r (walk (with_point k p) (ps ++ qs)) ≡ walk g qs
 went-by k g p ps qs (Some fault) further h = absurd cc
@@ -30,6 +31,7 @@ walk-stops k fault (p ∷ ps) qs e = stops-by k fault p ps qs (point_fault k p) 
 
 pub Stops-append : (fault : DeclFault) (k : Known) (ps qs : List Point) → Stops fault (walk k ps) → Stops fault (walk k (ps ++ qs))
 Stops-append (f.Declared kind name at) k ps qs e = walk-stops k _ ps qs e
+Stops-append (f.Data kind at first second) k ps qs e = e
 Stops-append f.NoMemory k ps qs e = tt
 
 pub Stops-went : (fault : DeclFault) (k g : Known) (ps qs : List Point) → walk k ps ≡ Ok g → Stops fault (walk g qs) → Stops fault (walk k (ps ++ qs))
@@ -48,9 +50,9 @@ module _ {S : Type 0} (points : S → List Point) (all : List S → List Point) 
   turn_stops fault e = subst (Stops fault) (ap (walk k) (sym here) ∙ so_far) (Stops-append fault k (points x) (all (drop (i + 1) xs)) e)
 
 -- a fault that is passed on
-pub passes_on : {X : Type 0} (result : Result X DeclFault) (fault : DeclFault) (old new : Known) (points : List Point) → IsErrAnd result (λ e. e ≡ fault) → Stops fault (walk old points) → Walks result old new points
-passes_on (Ok x) fault old new points is h = absurd is
-passes_on (Err e) fault old new points is h = subst (λ (g : DeclFault). Stops g (walk old points)) (sym is) h
+pub passes_on : {X : Type 0} (result : Result X DeclFault) (fault : DeclFault) (new : Known) (walked : Result Known Fault) → IsErrAnd result (λ e. e ≡ fault) → Stops fault walked → Went result new walked
+passes_on (Ok x) fault new walked is h = absurd is
+passes_on (Err e) fault new walked is h = subst (λ (g : DeclFault). Stops g walked) (sym is) h
 
 -- the last turn is over
 pub turns_end : {S : Type 0} (all : List S → List Point) (xs : List S) (i : ℕ) (k : Known) (whole : Result Known Fault) → all [] ≡ [] → length xs ≤ i → walk k (all (drop i xs)) ≡ whole → whole ≡ Ok k

@@ -1,2 +1,8 @@
+pub mod Given
+pub mod Grown
+pub mod Search
+pub mod Shown
+pub mod Values
 pub mod Walk
+pub mod Whole
 pub mod Walks

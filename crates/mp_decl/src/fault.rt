@@ -1,11 +1,12 @@
-// Why a file does not declare its model.
+// Why a text does not declare its model.
 
-use mp_base::{DeclKind, Label, NoMemory};
+use mp_base::{DataKind, DeclKind, Label, NoMemory, Ratio};
 use std::fmt;
 use thiserror::Error;
 
-/// Why a file does not declare its model: the kind of its first fault, the first 128 bytes of the name that fails and
-/// its place; or there was no memory.
+/// Why a text does not declare its model: the kind of its first fault in declaring it, the first 128 bytes of the name
+/// that fails and its place; the first number that is refused, with its place and the two numbers that say why; or
+/// there was no memory.
 #[derive(Drop, Error)]
 pub enum DeclFault {
     #[error("{kind:?} at byte {at}")]
@@ -13,6 +14,13 @@ pub enum DeclFault {
         kind: DeclKind,
         name: Label,
         at: u32,
+    },
+    #[error("{kind:?} at byte {at}")]
+    Data {
+        kind: DataKind,
+        at: u32,
+        first: Ratio,
+        second: Ratio,
     },
     #[error("there was no memory")]
     NoMemory,

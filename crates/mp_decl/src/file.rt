@@ -1,73 +1,93 @@
 // Whether a file declares its model.
 ghost use Rattle.std.specs.Prelude.{◌≡◌, ◌==◌, [], map, length, IfOk};
-ghost use Rattle.mp_syntax.specs.Spelling.{items_in};
+ghost use Rattle.mp_syntax.specs.Parts.{items_in, equations_of};
 ghost use Rattle.mp_file.specs.Shown.{statement_of, file_of};
-ghost use Rattle.mp_declared.specs.Sides.{equations};
-ghost use Rattle.mp_declared.specs.Declared.{points_of, variables, declared_fault};
-ghost use Rattle.mp_decl.specs.Walk.{known_fault, walk};
+ghost use Rattle.mp_values.specs.Names.{names_of};
+ghost use Rattle.mp_declared.specs.Declared.{value_fault, unvalued, declared_fault};
+ghost use Rattle.mp_decl.specs.Whole.{counted_fault, unvalued_in};
 ghost use Rattle.mp_decl.specs.Walks.{Finds};
 
 use crate::fault::DeclFault;
 use crate::known::{Known, wrong};
-use crate::names::Names;
+use crate::parts::items_of;
+use crate::values::unvalued;
 use crate::walk::walk;
 use mp_base::DeclKind;
-use mp_file::{File, Statement};
+use mp_file::{File, Named, Statement};
+use mp_names::Names;
+use mp_syntax::NameKind;
 use std::alloc::Global;
 
-/// The variables of a file that declares its model, in declared order, or the file's first fault: a name that is
-/// declared twice, a second model block, a name that is read before it is declared, a shift by more than one period;
-/// and then, with `end`, the length of the text, as the place: no model block, no variable, or not as many equations as
-/// variables (Dynare manual, "The model file"; which fault is named is modpath's own).
-pub fn declare<'t>(alloc: Global, file: &File<'t>, end: u32) -> Result<Names<'t>, DeclFault>
+/// The names of a file that declares its model, or the file's first fault: that of the first point in text order that
+/// fails by what stands before it; and then, with `end`, the length of the text, as the place: no model block, no
+/// endogenous variable, not as many equations as these, or a parameter without a value (Dynare manual, "The model
+/// file"; which fault is named is modpath's own).
+pub fn declared_names<'t>(alloc: Global, file: &File<'t>, end: u32) -> Result<Names<'t>, DeclFault>
     ensures fault { Finds result (declared_fault end (file_of file.now)) }
-    ensures names { IfOk result (λ names. names ≡ variables (file_of file.now)) }
+    ensures names { IfOk result (λ names. names ≡ names_of (file_of file.now)) }
 {
     let statements = file.statements.as_slice();
     let mut known = Known::new(alloc);
     walk(&mut known, statements)?;
-    test_whole(&known, statements, end)?;
+    test_counts(&known, statements, end)?;
+    test_values(alloc, &known, statements, end)?;
     let Known { names, begun: _ } = known;
     Ok(names)
 }
 
-// The tests of the whole, after the walk.
-fn test_whole(known: &Known, statements: &[Statement], end: u32) -> Result<(), DeclFault>
-    ensures { Finds result (known_fault end known.now (length (equations (map statement_of statements.now)))) }
+// The tests of what is counted, after the walk.
+fn test_counts(known: &Known, statements: &[Statement], end: u32) -> Result<(), DeclFault>
+    ensures { Finds result (counted_fault end known.now (length (equations_of (map statement_of statements.now)))) }
 {
     if !known.begun {
-        return Err(wrong(DeclKind::NoModel, b"", end));
+        return Err(wrong(DeclKind::NoModel, &nameless(end)));
     }
-    if known.names.count() == 0 {
-        return Err(wrong(DeclKind::Empty, b"", end));
+    let count = known.names.count(NameKind::Endogenous);
+    if count == 0 {
+        return Err(wrong(DeclKind::Empty, &nameless(end)));
     }
-    if !are_as_many(statements, known.names.count()) {
-        return Err(wrong(DeclKind::EquationCount, b"", end));
+    if !are_as_many(statements, count) {
+        return Err(wrong(DeclKind::EquationCount, &nameless(end)));
     }
     Ok(())
 }
 
-// Whether the equations are this many.
-fn are_as_many(statements: &[Statement], count: usize) -> bool
-    ensures { result ≡ (length (equations (map statement_of statements.now)) == count) }
+// A place without a name.
+fn nameless(at: u32) -> Named<'static>
+    ensures name { result.name.now ≡ [] }
+    ensures at { result.at ≡ at }
 {
-    let mut left = count;
+    Named { name: b"", at }
+}
+
+// The test of the values of parameters, after the walk.
+fn test_values<'t>(
+    alloc: Global,
+    known: &Known<'t>,
+    statements: &[Statement<'t>],
+    end: u32,
+) -> Result<(), DeclFault>
+    ensures { Finds result (value_fault end (unvalued_in (map statement_of statements.now) known.now.names.parameters)) }
+{
+    let parameters = known.names.of_kind(NameKind::Parameter);
+    match unvalued(alloc, statements, parameters) {
+        Ok(Some(name)) => Err(wrong(DeclKind::NoValue, &Named { name, at: end })),
+        Ok(None) => Ok(()),
+        Err(_) => Err(DeclFault::NoMemory),
+    }
+}
+
+// Whether the equations are this many.
+fn are_as_many(statements: &[Statement], count: u32) -> bool
+    ensures { result ≡ (length (equations_of (map statement_of statements.now)) == count) }
+{
+    let mut left = count as usize;
     'turns: for statement in statements {
-        let held = equations_of(statement);
+        let held = items_of(statement).len();
         if held > left {
             return false;
         }
         left -= held;
     }
     left == 0
-}
-
-// How many equations a statement holds.
-fn equations_of(statement: &Statement) -> usize
-    ensures { result ≡ length (items_in (statement_of statement.now)) }
-{
-    match statement {
-        Statement::Vars { .. } => 0,
-        Statement::Model { items, .. } => items.as_slice().len(),
-    }
 }

@@ -1,14 +1,19 @@
 // The walk over a file in text order, names from left to right. It stops at the first fault.
-ghost use Rattle.std.specs.Prelude.{map};
+ghost use Rattle.std.specs.Prelude.{◌≡◌, ◌∷◌, map, option_map};
 ghost use Rattle.std.specs.List.{flat_map};
-ghost use Rattle.mp_file.specs.Shown.{named_of, atom_of, factor_of, product_of, expr_of, item_of, statement_of};
-ghost use Rattle.mp_declared.specs.Declared.{Declares, reads, points_in};
-ghost use Rattle.mp_declared.specs.Sides.{sides};
-ghost use Rattle.mp_decl.specs.Walks.{Walks};
+ghost use Rattle.mp_file.specs.Shown.{named_of, expr_of, item_of, statement_of};
+ghost use Rattle.mp_declared.specs.Points as p;
+ghost use Rattle.mp_declared.specs.Points.{Declared, Assigned, reads, item_reads, points_in};
+ghost use Rattle.mp_decl.specs.Shown.{read_of};
+ghost use Rattle.mp_decl.specs.Walk.{walked_by};
+ghost use Rattle.mp_decl.specs.Walks.{Went, Walks};
 
 use crate::fault::DeclFault;
+use crate::find::{find_in_items, find_in_sum};
 use crate::known::Known;
-use mp_file::{Atom, Factor, Item, Named, Statement, Term};
+use crate::search::{Read, Reader, Search};
+use mp_file::{Item, Named, Statement, Term};
+use mp_syntax::NameKind;
 
 pub(crate) fn walk<'t>(known: &mut Known<'t>, statements: &[Statement<'t>]) -> Result<(), DeclFault>
     ensures { Walks result known.old known.new (flat_map points_in (map statement_of statements.now)) }
@@ -23,66 +28,57 @@ fn walk_statement<'t>(known: &mut Known<'t>, statement: &Statement<'t>) -> Resul
     ensures { Walks result known.old known.new (points_in (statement_of statement.now)) }
 {
     match statement {
-        Statement::Vars { names } => declare_names(known, names.as_slice()),
+        Statement::Declares { kind, names } => declare_names(known, *kind, names.as_slice()),
+        Statement::Assigns { name, value } => walk_assignment(known, name, value.as_slice()),
         Statement::Model { at, items } => {
             known.begin(*at)?;
-            read_items(known, items.as_slice())
+            walk_items(known, items.as_slice())
         }
     }
 }
 
-fn declare_names<'t>(known: &mut Known<'t>, names: &[Named<'t>]) -> Result<(), DeclFault>
-    ensures { Walks result known.old known.new (map Declares (map named_of names.now)) }
+fn declare_names<'t>(
+    known: &mut Known<'t>,
+    kind: NameKind,
+    names: &[Named<'t>],
+) -> Result<(), DeclFault>
+    ensures { Walks result known.old known.new (map (Declared kind) (map named_of names.now)) }
 {
     'turns: for name in names {
-        known.declare(name)?;
+        known.declare(kind, name)?;
     }
     Ok(())
 }
 
-fn read_items<'t>(known: &Known<'t>, items: &[Item<'t>]) -> Result<(), DeclFault>
-    ensures { Walks result known.now known.now (flat_map (λ x. flat_map reads (sides x)) (map item_of items.now)) }
+fn walk_assignment<'t>(
+    known: &Known<'t>,
+    name: &Named<'t>,
+    value: &[Term<'t>],
+) -> Result<(), DeclFault>
+    ensures { Walks result known.now known.now (Assigned (named_of name.now) ∷ reads p.Constant (expr_of value.now)) }
 {
-    'turns: for item in items {
-        read_item(known, item)?;
-    }
-    Ok(())
+    known.assign(name)?;
+    refused(
+        known,
+        find_in_sum(&Search::Faulty(known), Reader::Constant, value),
+    )
 }
 
-fn read_item<'t>(known: &Known<'t>, item: &Item<'t>) -> Result<(), DeclFault>
-    ensures { Walks result known.now known.now (flat_map reads (sides (item_of item.now))) }
+fn walk_items<'t>(known: &Known<'t>, items: &[Item<'t>]) -> Result<(), DeclFault>
+    ensures { Walks result known.now known.now (flat_map item_reads (map item_of items.now)) }
 {
-    read_sum(known, item.left.as_slice())?;
-    match &item.right {
+    refused(known, find_in_items(&Search::Faulty(known), items))
+}
+
+// The fault of the first name that fails, if there is one.
+fn refused<'t>(known: &Known<'t>, failing: Option<Read<'t>>) -> Result<(), DeclFault>
+    ensures { Went result known.now (walked_by known.now (option_map read_of failing.entry)) }
+{
+    let Some(read) = failing else {
+        return Ok(());
+    };
+    match known.read_fault(&read) {
+        Some(fault) => Err(fault),
         None => Ok(()),
-        Some(terms) => read_sum(known, terms.as_slice()),
-    }
-}
-
-fn read_sum<'t>(known: &Known<'t>, terms: &[Term<'t>]) -> Result<(), DeclFault>
-    ensures { Walks result known.now known.now (reads (expr_of terms.now)) }
-{
-    'turns: for term in terms {
-        read_product(known, term.factors.as_slice())?;
-    }
-    Ok(())
-}
-
-fn read_product<'t>(known: &Known<'t>, factors: &[Factor<'t>]) -> Result<(), DeclFault>
-    ensures { Walks result known.now known.now (reads (product_of (map factor_of factors.now))) }
-{
-    'turns: for factor in factors {
-        read_atom(known, &factor.atom)?;
-    }
-    Ok(())
-}
-
-#[tactic(auto, unfolding(mp_declared::specs::Declared::reads))]
-fn read_atom<'t>(known: &Known<'t>, atom: &Atom<'t>) -> Result<(), DeclFault>
-    ensures { Walks result known.now known.now (reads (atom_of atom.now)) }
-{
-    match atom {
-        Atom::Number { .. } => Ok(()),
-        Atom::Variable { name, shift } => known.read(name, shift),
     }
 }

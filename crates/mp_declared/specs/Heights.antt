@@ -1,16 +1,30 @@
 -- How high the sides of a file's equations are (modpath's own).
 use Rattle.std.specs.Prelude.{ℕ, ◌+◌, max, List, [], ◌∷◌, map}
 use Rattle.std.specs.List.{flat_map}
-use Rattle.mp_syntax.specs.Syntax.{Expr, Number, Variable, Plus, Minus, Times, Statement}
-use Rattle.mp_declared.specs.Sides.{sides, equations}
+use Rattle.mp_syntax.specs.declared.terminal.Sign.{Sign}
+use Rattle.mp_syntax.specs.declared.terminal.Sign.TheVariants as sign
+use Rattle.mp_syntax.specs.Syntax.{Expr, Number, Variable, Plus, Minus, Times, Over, Signed, Power, Paren, Min, Max, Statement}
+use Rattle.mp_syntax.specs.Parts.{equations_of}
+use Rattle.mp_declared.specs.Sides.{sides}
 
--- how many nodes stand on the longest way down
+-- a "-" before an expression is a node, a "+" is none
+abbrev pub signed_height : Sign → ℕ → ℕ
+signed_height sign.Plus n = n
+signed_height sign.Minus n = 1 + n
+
+-- how many nodes stand on the longest way down; parentheses and exponents are none
 unfoldable pub height : Expr → ℕ
-height (Number digits at) = 1
+height (Number literal at) = 1
 height (Variable name shift) = 1
 height (Plus a at b) = 1 + max (height a) (height b)
 height (Minus a at b) = 1 + max (height a) (height b)
 height (Times a at b) = 1 + max (height a) (height b)
+height (Over a at b) = 1 + max (height a) (height b)
+height (Signed s a) = signed_height s (height a)
+height (Power a at s b) = 1 + height a
+height (Paren a) = height a
+height (Min a b) = 1 + max (height a) (height b)
+height (Max a b) = 1 + max (height a) (height b)
 
 abbrev pub greatest : List ℕ → ℕ
 greatest [] = 0
@@ -18,4 +32,4 @@ greatest (n ∷ ns) = max n (greatest ns)
 
 -- the greatest height of a side of an equation
 abbrev pub greatest_height : List Statement → ℕ
-greatest_height file = greatest (map height (flat_map sides (equations file)))
+greatest_height file = greatest (map height (flat_map sides (equations_of file)))

@@ -30,6 +30,17 @@ impl Frac {
         Frac::lowest(up != down, top.magnitude(), bottom.magnitude())
     }
 
+    /// The fraction of these parts, which may have a common divisor.
+    pub fn ratio(top: u128, bottom: u128) -> Frac
+        requires top_small { top ≤ limit }
+        requires positive { 0 < bottom }
+        requires bottom_small { bottom ≤ limit }
+        ensures { value_of result ≡ ratio_of (pos top) bottom }
+    {
+        let g = gcd(top, bottom);
+        Frac::from_parts(Whole::signed(false, top / g), bottom / g)
+    }
+
     // The fraction with this sign and these parts, which may have a common divisor.
     pub(crate) fn lowest(negative: bool, top: u128, bottom: u128) -> Result<Frac, FracFault>
         requires { 0 < bottom }

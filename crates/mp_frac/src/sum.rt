@@ -54,8 +54,8 @@ impl Frac {
         self.add(other.negated())
     }
 
-    // The fraction with the other sign.
-    fn negated(self) -> Frac
+    /// The fraction with the other sign.
+    pub fn negated(self) -> Frac
         ensures { value_of result ≡ neg (value_of self) }
     {
         Frac::from_parts(self.numerator().negated(), self.den)

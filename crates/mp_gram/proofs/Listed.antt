@@ -1,9 +1,10 @@
 -- The reading functions as the loops of the code read: the whole list, with what was found first in front.
 use Rattle.std.proofs.Common.{◌≡◌, ℕ, List, [], ◌∷◌, Result, Ok, Err, refl, ap}
 use Rattle.mp_syntax.specs.declared.terminal.Terminal.TheVariants as k
+use Rattle.mp_syntax.specs.declared.terminal.NameKind.{NameKind}
 use Rattle.mp_syntax.specs.Tokens.{Tok}
-use Rattle.mp_syntax.specs.Syntax.{Named, Item, Statement, Vars, Model}
-use Rattle.mp_reading.specs.Reading.{Read, ◌>>=◌, all_at, token_at, name_at, name_begins, vars_at, item_at, item_begins, model_at, statement_at, any_begins, file_read}
+use Rattle.mp_syntax.specs.Syntax.{Named, Item, Statement, Declares, Model}
+use Rattle.mp_reading.specs.Reading.{Read, ◌>>=◌, all_at, token_at, name_at, name_begins, declares_at, item_at, item_begins, model_at, statement_at, any_begins, file_read}
 use Rattle.mp_gram_expr.specs.Gives.{with_front}
 
 front_none : {X : Type 0} (r : Read (List X)) → r ≡ with_front [] r
@@ -11,18 +12,18 @@ front_none (Ok x) = refl
 front_none (Err left) = refl
 
 -- the declaration of these names
-abbrev pub vars_by : List Named × List Tok → Read Statement
-vars_by names = token_at k.Semicolon names.1 >>= λ c. Ok (Vars names.0, c.1)
+abbrev pub declares_by : NameKind → List Named × List Tok → Read Statement
+declares_by kind names = token_at k.Semicolon names.1 >>= λ c. Ok (Declares kind names.0, c.1)
 
-pub vars_listed : (ts : List Tok) → vars_at ts ≡ (name_at ts >>= λ first. with_front (first.0 ∷ []) (all_at name_begins name_at first.1) >>= vars_by)
-unfolding vars_at
-vars_listed ts = by_first (name_at ts)
+pub declares_listed : (kind : NameKind) (ts : List Tok) → declares_at kind ts ≡ (name_at ts >>= λ first. with_front (first.0 ∷ []) (all_at name_begins name_at first.1) >>= declares_by kind)
+unfolding declares_at
+declares_listed kind ts = by_first (name_at ts)
   where
-    by_more : (n : Named) (r : Read (List Named)) → (r >>= λ more. vars_by (n ∷ more.0, more.1)) ≡ (with_front (n ∷ []) r >>= vars_by)
+    by_more : (n : Named) (r : Read (List Named)) → (r >>= λ more. declares_by kind (n ∷ more.0, more.1)) ≡ (with_front (n ∷ []) r >>= declares_by kind)
     by_more n (Ok more) = refl
     by_more n (Err left) = refl
 
-    by_first : (r : Read Named) → (r >>= λ first. all_at name_begins name_at first.1 >>= λ more. vars_by (first.0 ∷ more.0, more.1)) ≡ (r >>= λ first. with_front (first.0 ∷ []) (all_at name_begins name_at first.1) >>= vars_by)
+    by_first : (r : Read Named) → (r >>= λ first. all_at name_begins name_at first.1 >>= λ more. declares_by kind (first.0 ∷ more.0, more.1)) ≡ (r >>= λ first. with_front (first.0 ∷ []) (all_at name_begins name_at first.1) >>= declares_by kind)
     by_first (Ok first) = by_more first.0 (all_at name_begins name_at first.1)
     by_first (Err left) = refl
 

@@ -1,14 +1,17 @@
 // Statements and what they declare.
 ghost use Rattle.std.specs.Prelude.{◌≡◌, ◌<◌, ◌≤◌, length, map, IfOk, IfSome};
+ghost use Rattle.mp_lex.specs.Shown.{tok_of};
+ghost use Rattle.mp_syntax.specs.Grammar.{named};
 ghost use Rattle.mp_file.specs.Shown.{named_of, statement_of};
-ghost use Rattle.mp_reading.specs.Reading.{name_at, name_begins, vars_at, model_at, statement_at, any_begins, all_at};
+ghost use Rattle.mp_reading.specs.Reading.{name_at, name_begins, declares_at, assigns_at, model_at, statement_at, any_begins, all_at};
 ghost use Rattle.mp_gram_expr.specs.Shown.{toks};
 ghost use Rattle.mp_gram_expr.specs.Gives.{Gives, GivesOption, with_front};
 
 use crate::item::more_items;
 use mp_file::{Named, Statement};
-use mp_gram_expr::{Rest, Wrong, expect, wrong_at};
-use mp_syntax::Terminal;
+use mp_gram_expr::{Rest, Wrong, expect, expr_of, wrong_at};
+use mp_lex::Token;
+use mp_syntax::{NameKind, Terminal};
 use sqlite_items::Items;
 use std::alloc::Global;
 
@@ -60,13 +63,14 @@ fn more_names<'a, 't>(
     Ok((found, rest))
 }
 
-// What stands after "var".
-#[tactic(auto, using(crate::proofs::Listed::vars_listed, mp_gram_expr::proofs::Rules::length_toks))]
-fn vars_of<'a, 't>(
+// What stands after a word that declares names of this kind.
+#[tactic(auto, using(crate::proofs::Listed::declares_listed, mp_gram_expr::proofs::Rules::length_toks))]
+fn declares_of<'a, 't>(
     alloc: Global,
+    kind: NameKind,
     tokens: Rest<'a, 't>,
 ) -> Result<(Statement<'t>, Rest<'a, 't>), Wrong<'a, 't>>
-    ensures value { Gives (λ x. (statement_of x.0, toks x.1.now)) result (vars_at (toks tokens.now)) }
+    ensures value { Gives (λ x. (statement_of x.0, toks x.1.now)) result (declares_at kind (toks tokens.now)) }
     ensures fewer { IfOk result (λ x. length x.1.now < length tokens.now) }
 {
     let (first, rest) = name_of(tokens)?;
@@ -74,7 +78,27 @@ fn vars_of<'a, 't>(
     names.push(first)?;
     let (names, rest) = more_names(names, rest)?;
     let (_, rest) = expect(rest, Terminal::Semicolon)?;
-    Ok((Statement::Vars { names }, rest))
+    Ok((Statement::Declares { kind, names }, rest))
+}
+
+// What stands after the name that is given a value.
+#[tactic(auto, unfolding(mp_reading::specs::Reading::assigns_at))]
+fn assigns_of<'a, 't>(
+    alloc: Global,
+    name: &Token<'t>,
+    tokens: Rest<'a, 't>,
+) -> Result<(Statement<'t>, Rest<'a, 't>), Wrong<'a, 't>>
+    ensures value { Gives (λ x. (statement_of x.0, toks x.1.now)) result (assigns_at (named (tok_of name.now)) (toks tokens.now)) }
+    ensures fewer { IfOk result (λ x. length x.1.now < length tokens.now) }
+{
+    let (_, rest) = expect(tokens, Terminal::Equals)?;
+    let (value, rest) = expr_of(alloc, rest)?;
+    let (_, rest) = expect(rest, Terminal::Semicolon)?;
+    let name = Named {
+        name: name.text,
+        at: name.span.at,
+    };
+    Ok((Statement::Assigns { name, value }, rest))
 }
 
 // What stands after "model".
@@ -106,7 +130,10 @@ fn statement_of<'a, 't>(
         return wrong_at(tokens);
     };
     match t.terminal() {
-        Terminal::Var => return vars_of(alloc, rest),
+        Terminal::Var => return declares_of(alloc, NameKind::Endogenous, rest),
+        Terminal::Varexo => return declares_of(alloc, NameKind::Exogenous, rest),
+        Terminal::Parameters => return declares_of(alloc, NameKind::Parameter, rest),
+        Terminal::Name => return assigns_of(alloc, t, rest),
         Terminal::Model => return model_of(alloc, t.span.at, rest),
         _ => {}
     }

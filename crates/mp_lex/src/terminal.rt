@@ -58,6 +58,10 @@ impl Token<'_> {
             TokenKind::Plus => Terminal::Plus,
             TokenKind::Minus => Terminal::Minus,
             TokenKind::Star => Terminal::Star,
+            TokenKind::Slash => Terminal::Slash,
+            TokenKind::Caret => Terminal::Caret,
+            TokenKind::Number => Terminal::Number,
+            _ => Terminal::Other,
         }
     }
 }
@@ -69,11 +73,23 @@ fn word_of(text: &[u8]) -> Terminal
     if text == b"var".as_slice() {
         return Terminal::Var;
     }
+    if text == b"varexo".as_slice() {
+        return Terminal::Varexo;
+    }
+    if text == b"parameters".as_slice() {
+        return Terminal::Parameters;
+    }
     if text == b"model".as_slice() {
         return Terminal::Model;
     }
     if text == b"end".as_slice() {
         return Terminal::End;
+    }
+    if text == b"min".as_slice() {
+        return Terminal::Min;
+    }
+    if text == b"max".as_slice() {
+        return Terminal::Max;
     }
     if is_reserved(text) {
         return Terminal::Reserved;
@@ -81,8 +97,8 @@ fn word_of(text: &[u8]) -> Terminal
     Terminal::Name
 }
 
-// Whether the text is a reserved word. Only the words of its length are compared.
-fn is_reserved(text: &[u8]) -> bool
+/// Whether the text is a reserved word. Only the words of its length are compared.
+pub fn is_reserved(text: &[u8]) -> bool
     ensures { result ≡ is_reserved text.now }
 {
     match text.len() {

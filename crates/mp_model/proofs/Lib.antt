@@ -1,2 +1,4 @@
-pub mod Same
-pub mod Written
+pub mod Places
+pub mod Kept
+pub mod Examples
+pub mod Texts

@@ -1,17 +1,74 @@
--- One small file, and what it means: `var x; model; x = 2*x(-1); end;`.
-use Rattle.std.specs.Prelude.{pos, negsuc, List, [], ◌∷◌, Some, None, codes}
+-- Two small files, and the models that they mean.
+use Rattle.std.specs.Prelude.{ℕ, pos, negsuc, List, [], ◌∷◌, Some, None, codes}
+use Rattle.mp_rational.specs.Fraction.{ratio_of}
 use Rattle.mp_syntax.specs.declared.terminal.Sign.TheVariants as sign
-use Rattle.mp_syntax.specs.Syntax.{Named, Number, Variable, Times, Statement, Vars, Model}
-use Rattle.mp_semantics.specs.Term.{endogenous, number, variable, times}
+use Rattle.mp_syntax.specs.declared.terminal.NameKind.TheVariants as kind
+use Rattle.mp_syntax.specs.Syntax.{Shift, Named, Expr, Number, Variable, Plus, Times, Over, Power, Paren, Statement, Declares, Assigns, Model}
+use Rattle.mp_semantics.specs.Term.{endogenous, exogenous, number, variable, plus, times, power_of}
 use Rattle.mp_semantics.specs.Model as m
+
+abbrev pub x_at : ℕ → Named
+x_at at = record { name = codes "x"; at = at }
+
+abbrev pub e_at : ℕ → Named
+e_at at = record { name = codes "e"; at = at }
+
+abbrev pub a_at : ℕ → Named
+a_at at = record { name = codes "a"; at = at }
+
+-- one period back
+abbrev pub back : Shift
+back = record { sign = sign.Minus; digits = codes "1" }
+
+-- ---- values
+
+abbrev pub values_text : List ℕ
+values_text =
+    codes "var x; varexo e; parameters a; a = 1/2; a = a+1; model; x = (2*x(-1))^(a*2)+e; end;"
+
+-- `1/2`
+abbrev pub half : Expr
+half = Over (Number (codes "1") 35) 36 (Number (codes "2") 37)
+
+-- `a+1`
+abbrev pub one_more : Expr
+one_more = Plus (Variable (a_at 44) None) 45 (Number (codes "1") 46)
+
+-- `a*2`
+abbrev pub twice : Expr
+twice = Times (Variable (a_at 71) None) 72 (Number (codes "2") 73)
+
+-- `(2*x(-1))^(a*2)+e`
+abbrev pub powered : Expr
+powered =
+    Plus (Power (Paren (Times (Number (codes "2") 61) 62 (Variable (x_at 63) (Some back)))) 69 None (Paren twice)) 75 (Variable (e_at 76) None)
+
+-- the file that the text reads as
+abbrev pub values_file : List Statement
+values_file =
+    Declares kind.Endogenous (x_at 4 ∷ []) ∷ Declares kind.Exogenous (e_at 14 ∷ []) ∷ Declares kind.Parameter (a_at 28 ∷ []) ∷ Assigns (a_at 31) half ∷ Assigns (a_at 40) one_more ∷ Model 49 (record { left = Variable (x_at 56) None; right = Some powered } ∷ []) ∷ []
+
+-- its model: the parameter is worth 3/2 at last, and the exponent is 3
+abbrev pub values_model : m.Model
+values_model = record {
+  endogenous_names = codes "x" ∷ [];
+  exogenous_names = codes "e" ∷ [];
+  parameters = record { name = codes "a"; value = ratio_of (pos 3) 2 } ∷ [];
+  equations = record { left = variable (endogenous 0) (pos 0); right = plus (power_of (times (number 2 0) (variable (endogenous 0) (negsuc 0))) (pos 3)) (variable (exogenous 0) (pos 0)); name = None; bind = []; relax = [] } ∷ [];
+  constraints = [];
+}
+
+-- its text
+abbrev pub values_printed : List ℕ
+values_printed =
+    codes "var x;\nvarexo e;\nparameters a;\na = 3/2;\nmodel;\nx = (2*x(-1))^3+e;\nend;\n"
+
+-- ---- doubling: `var x; model; x = 2*x(-1); end;`
 
 -- the file, as it is read
 abbrev pub doubling_file : List Statement
 doubling_file =
-    let x : Named = record { name = codes "x"; at = 4 } in
-    let left = Variable (record { name = codes "x"; at = 14 }) None in
-    let right = Times (Number (codes "2") 18) 19 (Variable (record { name = codes "x"; at = 20 }) (Some (record { sign = sign.Minus; digits = codes "1" }))) in
-    Vars (x ∷ []) ∷ Model 7 (record { left = left; right = Some right } ∷ []) ∷ []
+    Declares kind.Endogenous (x_at 4 ∷ []) ∷ Model 7 (record { left = Variable (x_at 14) None; right = Some (Times (Number (codes "2") 18) 19 (Variable (x_at 20) (Some back))) } ∷ []) ∷ []
 
 -- its model: one variable, and one equation that is always in force
 abbrev pub doubling_model : m.Model

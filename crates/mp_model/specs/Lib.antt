@@ -1,3 +1,2 @@
-pub mod ModelOf
 pub mod Headline
 pub mod Example

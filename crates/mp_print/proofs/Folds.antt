@@ -1,42 +1,48 @@
 -- A product is its first factor and the others, a sum its first term and the others.
-use Rattle.std.proofs.Common.{◌≡◌, ℕ, List, [], ◌∷◌, ◌++◌, refl, sym, ap, ◌∙◌, append-nil, append_assoc}
-use Rattle.std.specs.List.{flat_map}
+use Rattle.std.proofs.Common.{◌≡◌, ℕ, List, [], ◌∷◌, ◌++◌, true, false, codes, refl, sym, ap, ◌∙◌, append-nil, append_assoc}
 use Rattle.mp_syntax.specs.declared.terminal.Sign.{Sign}
 use Rattle.mp_syntax.specs.declared.terminal.Sign.TheVariants as sign
-use Rattle.mp_syntax.specs.Syntax.{Expr, Times, Term, Factor, joined, with_terms, with_factors}
-use Rattle.mp_syntax.specs.Spelling.{sign_byte, spelled}
+use Rattle.mp_syntax.specs.declared.terminal.Scale.{Scale}
+use Rattle.mp_syntax.specs.declared.terminal.Scale.TheVariants as scale
+use Rattle.mp_syntax.specs.Syntax.{Expr, Min, Max, Term, Factor, joined, scaled, with_terms, with_factors}
+use Rattle.mp_spelling.specs.Spelled.{sign_byte, spelled}
 use Rattle.mp_file.specs.Shown.{product_of, sum_of}
-use Rattle.mp_print.specs.Parts.{spelled_factor, spelled_term}
+use Rattle.mp_print.specs.Parts.{scale_bytes, spelled_factors, spelled_terms}
 
-spelled-times : (e : Expr) (x : Factor) → spelled (Times e x.at x.atom) ≡ spelled e ++ spelled_factor x
+spelled-scaled : (s : Scale) (e : Expr) (at : ℕ) (p : Expr) → spelled (scaled s e at p) ≡ spelled e ++ (scale_bytes s ++ spelled p)
 unfolding spelled
-spelled-times e x = refl
+spelled-scaled scale.Times e at p = refl
+spelled-scaled scale.Over e at p = refl
 
-spelled-joined : (e : Expr) (s : Sign) (at : ℕ) (p : Expr) → spelled (joined s e at p) ≡ spelled e ++ sign_byte s ∷ spelled p
+spelled-joined : (s : Sign) (e : Expr) (at : ℕ) (p : Expr) → spelled (joined s e at p) ≡ spelled e ++ (sign_byte s ∷ [] ++ spelled p)
 unfolding spelled
-spelled-joined e sign.Plus at p = refl
-spelled-joined e sign.Minus at p = refl
+spelled-joined sign.Plus e at p = refl
+spelled-joined sign.Minus e at p = refl
 
-pub spelled-with_factors : (e : Expr) (more : List Factor) → spelled (with_factors e more) ≡ spelled e ++ flat_map spelled_factor more
+spelled-with_factors : (e : Expr) (more : List Factor) → spelled (with_factors e more) ≡ spelled e ++ spelled_factors true more
 spelled-with_factors e [] = sym (append-nil (spelled e))
 spelled-with_factors e (x ∷ more) =
-    spelled-with_factors (Times e x.at x.atom) more ∙ ap (λ l. l ++ flat_map spelled_factor more) (spelled-times e x) ∙ append_assoc (spelled e) (spelled_factor x) (flat_map spelled_factor more)
+    spelled-with_factors (scaled x.scale e x.at x.power) more ∙ ap (λ l. l ++ spelled_factors true more) (spelled-scaled x.scale e x.at x.power) ∙ simp append_assoc
 
-pub spelled-with_terms : (e : Expr) (more : List Term) → spelled (with_terms e more) ≡ spelled e ++ flat_map spelled_term more
+spelled-with_terms : (e : Expr) (more : List Term) → spelled (with_terms e more) ≡ spelled e ++ spelled_terms true more
 spelled-with_terms e [] = sym (append-nil (spelled e))
 spelled-with_terms e (x ∷ more) =
-    spelled-with_terms (joined x.sign e x.at x.product) more ∙ ap (λ l. l ++ flat_map spelled_term more) (spelled-joined e x.sign x.at x.product) ∙ append_assoc (spelled e) (spelled_term x) (flat_map spelled_term more)
+    spelled-with_terms (joined x.sign e x.at x.product) more ∙ ap (λ l. l ++ spelled_terms true more) (spelled-joined x.sign e x.at x.product) ∙ simp append_assoc
 
-pub spelled-product : (first : Factor) (more : List Factor) → spelled (product_of (first ∷ more)) ≡ spelled first.atom ++ flat_map spelled_factor more
-spelled-product first more = spelled-with_factors first.atom more
-
-pub spelled-product_none : spelled (product_of []) ≡ 48 ∷ []
+pub spelled-product : (all : List Factor) → spelled (product_of all) ≡ spelled_factors false all
 unfolding spelled
-spelled-product_none = refl
+spelled-product [] = refl
+spelled-product (x ∷ more) = spelled-with_factors x.power more
 
-pub spelled-sum : (first : Term) (more : List Term) → spelled (sum_of (first ∷ more)) ≡ spelled first.product ++ flat_map spelled_term more
-spelled-sum first more = spelled-with_terms first.product more
-
-pub spelled-sum_none : spelled (sum_of []) ≡ 48 ∷ []
+pub spelled-sum : (all : List Term) → spelled (sum_of all) ≡ spelled_terms false all
 unfolding spelled
-spelled-sum_none = refl
+spelled-sum [] = refl
+spelled-sum (x ∷ more) = spelled-with_terms x.product more
+
+pub spelled-least : (a b : Expr) → spelled (Min a b) ≡ codes "min(" ++ spelled a ++ 44 ∷ spelled b ++ 41 ∷ []
+unfolding spelled
+spelled-least a b = refl
+
+pub spelled-greatest : (a b : Expr) → spelled (Max a b) ≡ codes "max(" ++ spelled a ++ 44 ∷ spelled b ++ 41 ∷ []
+unfolding spelled
+spelled-greatest a b = refl

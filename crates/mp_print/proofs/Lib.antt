@@ -1,2 +1,3 @@
+pub mod Again
 pub mod Folds
-pub mod Some
+pub mod Views

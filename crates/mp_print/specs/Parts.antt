@@ -1,20 +1,38 @@
--- Parts of the canonical spelling.
-use Rattle.std.specs.Prelude.{ℕ, List, [], ◌∷◌, Bool, true, false}
-use Rattle.mp_syntax.specs.Syntax.{Term, Factor}
-use Rattle.mp_syntax.specs.Spelling.{sign_byte, spelled}
+-- Parts of the text of a file as it was read.
+use Rattle.std.specs.Prelude.{ℕ, List, [], ◌∷◌, ◌++◌, Bool, true, false, codes}
+use Rattle.mp_syntax.specs.declared.terminal.Sign.{Sign}
+use Rattle.mp_syntax.specs.declared.terminal.Scale.{Scale}
+use Rattle.mp_syntax.specs.declared.terminal.Scale.TheVariants as scale
+use Rattle.mp_syntax.specs.Syntax.{Named, Expr, Term, Factor}
+use Rattle.mp_spelling.specs.Spelled.{sign_byte, spelled}
 
--- a variable after the word or the variable before it
-abbrev pub spelled_name : List ℕ → List ℕ
-spelled_name name = 32 ∷ name
+abbrev pub scale_bytes : Scale → List ℕ
+scale_bytes scale.Times = 42 ∷ []
+scale_bytes scale.Over = 47 ∷ []
 
--- a factor with its operator
-abbrev pub spelled_factor : Factor → List ℕ
-spelled_factor x = 42 ∷ spelled x.atom
+-- the operator before a factor, which the first one has not
+abbrev pub scale_if : Bool → Scale → List ℕ
+scale_if false s = []
+scale_if true s = scale_bytes s
 
--- a term with its operator
-abbrev pub spelled_term : Term → List ℕ
-spelled_term x = sign_byte x.sign ∷ spelled x.product
+-- the operator before a term, which the first one has not
+abbrev pub sign_if : Bool → Sign → List ℕ
+sign_if false s = []
+sign_if true s = sign_byte s ∷ []
 
-abbrev pub has_some : {X : Type 0} → List X → Bool
-has_some [] = false
-has_some (x ∷ xs) = true
+-- these factors, after others or from the first
+abbrev pub spelled_factors : Bool → List Factor → List ℕ
+spelled_factors begun [] = []
+spelled_factors begun (x ∷ more) = scale_if begun x.scale ++ (spelled x.power ++ spelled_factors true more)
+
+-- these terms, after others or from the first
+abbrev pub spelled_terms : Bool → List Term → List ℕ
+spelled_terms begun [] = []
+spelled_terms begun (x ∷ more) = sign_if begun x.sign ++ (spelled x.product ++ spelled_terms true more)
+
+-- a name after a blank
+abbrev pub spelled_name : Named → List ℕ
+spelled_name n = 32 ∷ n.name
+
+abbrev pub spelled_value : List ℕ → Expr → List ℕ
+spelled_value name value = name ++ codes " = " ++ spelled value ++ codes ";\n"

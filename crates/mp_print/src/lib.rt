@@ -1,4 +1,4 @@
-//! From a file back to a text: the canonical spelling.
+//! From a file back to a text, as it was read.
 #![tactic(auto)]
 
 pub mod expression;

@@ -26,11 +26,16 @@ bound (Ok x) f y e = (x, refl, e)
 
 pub is-same : (a b : Terminal) → is a b ≡ true → b ≡ a
 is-same k.Var k.Var e = refl
+is-same k.Varexo k.Varexo e = refl
+is-same k.Parameters k.Parameters e = refl
 is-same k.Model k.Model e = refl
 is-same k.End k.End e = refl
+is-same k.Min k.Min e = refl
+is-same k.Max k.Max e = refl
 is-same k.Reserved k.Reserved e = refl
 is-same k.Name k.Name e = refl
 is-same k.Whole k.Whole e = refl
+is-same k.Number k.Number e = refl
 is-same k.Semicolon k.Semicolon e = refl
 is-same k.Comma k.Comma e = refl
 is-same k.Equals k.Equals e = refl
@@ -39,6 +44,9 @@ is-same k.Close k.Close e = refl
 is-same k.Plus k.Plus e = refl
 is-same k.Minus k.Minus e = refl
 is-same k.Star k.Star e = refl
+is-same k.Slash k.Slash e = refl
+is-same k.Caret k.Caret e = refl
+is-same k.Other k.Other e = refl
 is-same _ _ e = cc
 
 -- one token

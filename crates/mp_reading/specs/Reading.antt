@@ -4,9 +4,13 @@ use Rattle.mp_syntax.specs.declared.terminal.Terminal.{Terminal}
 use Rattle.mp_syntax.specs.declared.terminal.Terminal.TheVariants as t
 use Rattle.mp_syntax.specs.declared.terminal.Sign.{Sign}
 use Rattle.mp_syntax.specs.declared.terminal.Sign.TheVariants as sign
+use Rattle.mp_syntax.specs.declared.terminal.Scale.{Scale}
+use Rattle.mp_syntax.specs.declared.terminal.Scale.TheVariants as scale
+use Rattle.mp_syntax.specs.declared.terminal.NameKind.{NameKind}
+use Rattle.mp_syntax.specs.declared.terminal.NameKind.TheVariants as kind
 use Rattle.mp_syntax.specs.Tokens.{Tok}
 use Rattle.mp_syntax.specs.Terminals.{terminal_of}
-use Rattle.mp_syntax.specs.Syntax.{Shift, Named, Expr, Number, Variable, Term, Factor, with_terms, with_factors, Item, Statement, Vars, Model}
+use Rattle.mp_syntax.specs.Syntax.{Shift, Named, Expr, Number, Variable, Power, Paren, Min, Max, Term, Factor, with_terms, with_factors, signed, Item, Statement, Declares, Assigns, Model}
 use Rattle.mp_syntax.specs.Grammar.{named}
 
 -- a value and the tokens after it, or the tokens from the wrong one on
@@ -30,11 +34,16 @@ go_on (Some b) done next = next b
 -- both are the same terminal
 abbrev pub is : Terminal → Terminal → Bool
 is t.Var t.Var = true
+is t.Varexo t.Varexo = true
+is t.Parameters t.Parameters = true
 is t.Model t.Model = true
 is t.End t.End = true
+is t.Min t.Min = true
+is t.Max t.Max = true
 is t.Reserved t.Reserved = true
 is t.Name t.Name = true
 is t.Whole t.Whole = true
+is t.Number t.Number = true
 is t.Semicolon t.Semicolon = true
 is t.Comma t.Comma = true
 is t.Equals t.Equals = true
@@ -43,6 +52,9 @@ is t.Close t.Close = true
 is t.Plus t.Plus = true
 is t.Minus t.Minus = true
 is t.Star t.Star = true
+is t.Slash t.Slash = true
+is t.Caret t.Caret = true
+is t.Other t.Other = true
 is _ _ = false
 
 -- the next token is this terminal
@@ -71,27 +83,99 @@ unfoldable pub shift_at : List Tok → Read Shift
 shift_at [] = Err []
 shift_at (t ∷ ts) = shift_by (terminal_of t) t ts
 
--- the name with the shift that stands after "("
-unfoldable pub shifted_at : Named → List Tok → Read Expr
-shifted_at name ts = do
+-- how what stands in one more "(" is read, where one may be open
+abbrev pub Inside : Type 0
+Inside = Option (List Tok → Read Expr)
+
+-- the name with the shift that stands after "(", which is the first token here
+unfoldable pub shifted_at : Inside → Named → List Tok → List Tok → Read Expr
+shifted_at None name here ts = Err here
+shifted_at (Some inside) name here ts = do
   s ← shift_at ts
   c ← token_at t.Close s.1
   Ok (Variable name (Some s.0), c.1)
 
 -- the variable of this name, with the shift after it if there is one
-unfoldable pub variable_at : Tok → List Tok → Read Expr
-variable_at n ts = if next_is t.Open ts then shifted_at (named n) (drop 1 ts) else Ok (Variable (named n) None, ts)
+unfoldable pub variable_at : Inside → Tok → List Tok → Read Expr
+variable_at inside n ts =
+    if next_is t.Open ts then shifted_at inside (named n) ts (drop 1 ts) else Ok (Variable (named n) None, ts)
+
+-- the expression that stands after "(", which is the first token here
+unfoldable pub paren_at : Inside → List Tok → List Tok → Read Expr
+paren_at None here ts = Err here
+paren_at (Some inside) here ts = do
+  e ← inside ts
+  c ← token_at t.Close e.1
+  Ok (Paren e.0, c.1)
+
+-- the two expressions that stand in parentheses after "min" or "max", which is the first token here
+unfoldable pub both_at : Inside → List Tok → List Tok → Read (Expr × Expr)
+both_at None here ts = Err here
+both_at (Some inside) here ts = do
+  o ← token_at t.Open ts
+  a ← inside o.1
+  c ← token_at t.Comma a.1
+  b ← inside c.1
+  d ← token_at t.Close b.1
+  Ok ((a.0, b.0), d.1)
+
+-- after "min"
+unfoldable pub min_at : Inside → List Tok → List Tok → Read Expr
+min_at inside here ts = both_at inside here ts >>= λ p. Ok (Min p.0.0 p.0.1, p.1)
+
+-- after "max"
+unfoldable pub max_at : Inside → List Tok → List Tok → Read Expr
+max_at inside here ts = both_at inside here ts >>= λ p. Ok (Max p.0.0 p.0.1, p.1)
 
 -- by the first token
-abbrev pub atom_by : Terminal → Tok → List Tok → Read Expr
-atom_by t.Whole t ts = Ok (Number t.bytes t.at, ts)
-atom_by t.Name t ts = variable_at t ts
-atom_by _ t ts = Err (t ∷ ts)
+abbrev pub atom_by : Inside → Terminal → Tok → List Tok → Read Expr
+atom_by inside t.Whole t ts = Ok (Number t.bytes t.at, ts)
+atom_by inside t.Number t ts = Ok (Number t.bytes t.at, ts)
+atom_by inside t.Name t ts = variable_at inside t ts
+atom_by inside t.Open t ts = paren_at inside (t ∷ ts) ts
+atom_by inside t.Min t ts = min_at inside (t ∷ ts) ts
+atom_by inside t.Max t ts = max_at inside (t ∷ ts) ts
+atom_by inside _ t ts = Err (t ∷ ts)
 
--- a number or a variable
-unfoldable pub atom_at : List Tok → Read Expr
-atom_at [] = Err []
-atom_at (t ∷ ts) = atom_by (terminal_of t) t ts
+-- a number, a variable, or what begins with "(", "min" or "max"
+unfoldable pub atom_at : Inside → List Tok → Read Expr
+atom_at inside [] = Err []
+atom_at inside (t ∷ ts) = atom_by inside (terminal_of t) t ts
+
+-- by the first token
+abbrev pub sign_by : Terminal → Tok → List Tok → Option Sign × List Tok
+sign_by t.Plus t ts = (Some sign.Plus, ts)
+sign_by t.Minus t ts = (Some sign.Minus, ts)
+sign_by _ t ts = (None, t ∷ ts)
+
+-- a sign if there is one, and the tokens after it
+unfoldable pub sign_at : List Tok → Option Sign × List Tok
+sign_at [] = (None, [])
+sign_at (t ∷ ts) = sign_by (terminal_of t) t ts
+
+-- by the first token
+abbrev pub caret_by : Terminal → Tok → List Tok → Option (ℕ × List Tok)
+caret_by t.Caret t ts = Some (t.at, ts)
+caret_by _ t ts = None
+
+-- the place of a "^", and the tokens after it
+unfoldable pub caret_at : List Tok → Option (ℕ × List Tok)
+caret_at [] = None
+caret_at (t ∷ ts) = caret_by (terminal_of t) t ts
+
+-- the base with the exponent after a "^" at this place
+abbrev pub raised_at : Inside → Expr → ℕ × List Tok → Read Expr
+raised_at inside base c =
+    let s = sign_at c.1 in atom_at inside s.1 >>= λ e. Ok (Power base c.0 s.0 e.0, e.1)
+
+-- an atom, and the exponent after it if there is one
+unfoldable pub power_at : Inside → List Tok → Read Expr
+power_at inside ts = atom_at inside ts >>= λ a. go_on (caret_at a.1) (Ok a) (raised_at inside a.0)
+
+-- a power with the sign before it
+unfoldable pub signed_at : Inside → List Tok → Read Expr
+signed_at inside ts =
+    let s = sign_at ts in power_at inside s.1 >>= λ a. Ok (signed s.0 a.0, a.1)
 
 -- at most so many, as long as there begins one
 unfoldable pub more_at : {B X : Type 0} → ℕ → (List Tok → Option B) → (B → Read X) → List Tok → Read (List X)
@@ -104,24 +188,25 @@ abbrev pub all_at : {B X : Type 0} → (List Tok → Option B) → (B → Read X
 all_at begin step ts = more_at (length ts + 1) begin step ts
 
 -- by the first token
-abbrev pub star_by : Terminal → Tok → List Tok → Option (ℕ × List Tok)
-star_by t.Star t ts = Some (t.at, ts)
+abbrev pub star_by : Terminal → Tok → List Tok → Option ((Scale × ℕ) × List Tok)
+star_by t.Star t ts = Some ((scale.Times, t.at), ts)
+star_by t.Slash t ts = Some ((scale.Over, t.at), ts)
 star_by _ t ts = None
 
--- the place of a "*", and the tokens after it
-unfoldable pub star_at : List Tok → Option (ℕ × List Tok)
+-- a "*" or a "/" with its place, and the tokens after it
+unfoldable pub star_at : List Tok → Option ((Scale × ℕ) × List Tok)
 star_at [] = None
 star_at (t ∷ ts) = star_by (terminal_of t) t ts
 
--- the atom after a "*" at this place
-unfoldable pub factor_at : ℕ × List Tok → Read Factor
-factor_at b = atom_at b.1 >>= λ a. Ok (record { at = b.0; atom = a.0 }, a.1)
+-- the signed power after this operator
+unfoldable pub factor_at : Inside → (Scale × ℕ) × List Tok → Read Factor
+factor_at inside b = signed_at inside b.1 >>= λ a. Ok (record { scale = b.0.0; at = b.0.1; power = a.0 }, a.1)
 
--- an atom, and all factors that follow
-unfoldable pub product_at : List Tok → Read Expr
-product_at ts = do
-  first ← atom_at ts
-  more ← all_at star_at factor_at first.1
+-- a signed power, and all factors that follow
+unfoldable pub product_at : Inside → List Tok → Read Expr
+product_at inside ts = do
+  first ← signed_at inside ts
+  more ← all_at star_at (factor_at inside) first.1
   Ok (with_factors first.0 more.0, more.1)
 
 -- by the first token
@@ -136,20 +221,30 @@ plus_at [] = None
 plus_at (t ∷ ts) = plus_by (terminal_of t) t ts
 
 -- the product after this operator
-unfoldable pub term_at : (Sign × ℕ) × List Tok → Read Term
-term_at b = product_at b.1 >>= λ p. Ok (record { sign = b.0.0; at = b.0.1; product = p.0 }, p.1)
+unfoldable pub term_at : Inside → (Sign × ℕ) × List Tok → Read Term
+term_at inside b = product_at inside b.1 >>= λ p. Ok (record { sign = b.0.0; at = b.0.1; product = p.0 }, p.1)
 
 -- a product, and all terms that follow
-unfoldable pub sum_at : List Tok → Read Expr
-sum_at ts = do
-  first ← product_at ts
-  more ← all_at plus_at term_at first.1
+unfoldable pub sum_at : Inside → List Tok → Read Expr
+sum_at inside ts = do
+  first ← product_at inside ts
+  more ← all_at plus_at (term_at inside) first.1
   Ok (with_terms first.0 more.0, more.1)
+
+-- an expression with at most so many "(" open at once
+unfoldable pub expr_at : ℕ → List Tok → Read Expr
+expr_at zero = sum_at None
+expr_at (suc room) = sum_at (Some (expr_at room))
+
+-- what stands in one of so many "("
+unfoldable pub inside : ℕ → Inside
+inside zero = None
+inside (suc room) = Some (expr_at room)
 
 -- the right side of an equation, after "="
 unfoldable pub right_at : Expr → List Tok → Read Item
 right_at left ts = do
-  right ← sum_at ts
+  right ← expr_at 500 ts
   c ← token_at t.Semicolon right.1
   Ok (record { left = left; right = Some right.0 }, c.1)
 
@@ -160,7 +255,7 @@ alone_at left ts = token_at t.Semicolon ts >>= λ c. Ok (record { left = left; r
 -- a side, and the other after "="
 unfoldable pub item_at : List Tok → Read Item
 item_at ts =
-    sum_at ts >>= λ left. if next_is t.Equals left.1 then right_at left.0 (drop 1 left.1) else alone_at left.0 left.1
+    expr_at 500 ts >>= λ left. if next_is t.Equals left.1 then right_at left.0 (drop 1 left.1) else alone_at left.0 left.1
 
 -- by the first token
 abbrev pub item_by : Terminal → List Tok → Option (List Tok)
@@ -187,13 +282,21 @@ unfoldable pub name_begins : List Tok → Option (List Tok)
 name_begins [] = None
 name_begins (t ∷ ts) = name_by (terminal_of t) t ts
 
--- after "var"
-unfoldable pub vars_at : List Tok → Read Statement
-vars_at ts = do
+-- after a word that declares names of this kind
+unfoldable pub declares_at : NameKind → List Tok → Read Statement
+declares_at k ts = do
   first ← name_at ts
   more ← all_at name_begins name_at first.1
   c ← token_at t.Semicolon more.1
-  Ok (Vars (first.0 ∷ more.0), c.1)
+  Ok (Declares k (first.0 ∷ more.0), c.1)
+
+-- after the name that is given a value
+unfoldable pub assigns_at : Named → List Tok → Read Statement
+assigns_at name ts = do
+  q ← token_at t.Equals ts
+  e ← expr_at 500 q.1
+  c ← token_at t.Semicolon e.1
+  Ok (Assigns name e.0, c.1)
 
 -- after "model", which stands at this place
 unfoldable pub model_at : ℕ → List Tok → Read Statement
@@ -206,11 +309,14 @@ model_at at ts = do
 
 -- by the first token
 abbrev pub statement_by : Terminal → Tok → List Tok → Read Statement
-statement_by t.Var t ts = vars_at ts
+statement_by t.Var t ts = declares_at kind.Endogenous ts
+statement_by t.Varexo t ts = declares_at kind.Exogenous ts
+statement_by t.Parameters t ts = declares_at kind.Parameter ts
+statement_by t.Name t ts = assigns_at (named t) ts
 statement_by t.Model t ts = model_at t.at ts
 statement_by _ t ts = Err (t ∷ ts)
 
--- a declaration or a model block
+-- a declaration, a parameter that is given a value, or a model block
 unfoldable pub statement_at : List Tok → Read Statement
 statement_at [] = Err []
 statement_at (t ∷ ts) = statement_by (terminal_of t) t ts

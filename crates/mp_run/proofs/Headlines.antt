@@ -1,25 +1,24 @@
--- The canonical spelling of a text's file has its solutions.
-use Rattle.std.proofs.Common.{◌≡◌, ℕ, List, Option, Some, None, Ok, sym, subst}
+-- What a job has written has the solutions of what was read.
+use Rattle.std.proofs.Common.{List, ℕ, Option, Some, None}
+use Rattle.mp_base.specs.declared.job.Job.{Job}
+use Rattle.mp_base.specs.declared.job.Job.TheVariants as j
 use Rattle.mp_base.specs.declared.outcome.Outcome.{Outcome}
 use Rattle.mp_base.specs.declared.outcome.Outcome.TheVariants as o
-use Rattle.mp_syntax.specs.Tokens.{Tok, tokens}
-use Rattle.mp_syntax.specs.Syntax.{Statement}
-use Rattle.mp_syntax.specs.Grammar.{Reads}
-use Rattle.mp_syntax.specs.Spelling.{spelled_file}
-use Rattle.mp_model.specs.Headline.{KeepsSolutions}
 use Rattle.mp_outside.specs.Outside.{Held, Listing}
-use Rattle.mp_run.specs.Verdict.{text_of}
-use Rattle.mp_run.specs.Answers.{Transforms, WritesCanonical}
-use Rattle.mp_run.specs.Headline.{WritesSameSolutions}
+use Rattle.mp_run.specs.Answers.{IsDone, WritesResult}
+use Rattle.mp_run.specs.Headline.{KeepsFor, WritesSameSolutions}
 
--- what the law of the model gives at the text that was read
-keeps : ((text : List ℕ) (ts : List Tok) (file : List Statement) → tokens text ≡ Ok ts → Reads ts file → KeepsSolutions file (spelled_file file))
-    → (words : List (List ℕ)) (l : Listing) (written : List ℕ) (t : Transforms words l written) → KeepsSolutions t.file written
-keeps law words l written t =
-    subst (λ (w : List ℕ). KeepsSolutions t.file w) (sym t.spelled) (law (text_of t.bytes) t.ts t.file t.lexed t.reads)
+keeps : (job : Job) (text written : List ℕ) → IsDone job text written → KeepsFor job text written
+keeps j.Expand text written d = tt
+keeps j.Transform text written d = record { ts = d.ts; file = d.file; lexed = d.lexed; reads = d.reads; keeps = d.keeps }
+keeps j.Derive text written d = tt
+keeps j.Solve text written d = tt
+keeps j.Occbin text written d = tt
+keeps j.Check text written d = tt
+keeps j.Sample text written d = tt
 
-pub same_solutions : ((text : List ℕ) (ts : List Tok) (file : List Statement) → tokens text ≡ Ok ts → Reads ts file → KeepsSolutions file (spelled_file file))
-    → (told : Option Listing) (words : List (List ℕ)) (before now : Held) (outcome : Outcome) → WritesCanonical told words before now outcome → WritesSameSolutions told words before now outcome
-same_solutions law None words before now o.Done h = h
-same_solutions law (Some l) words before now o.Done h = (h.0, h.1, keeps law words l h.0 h.1, h.2)
-same_solutions law told words before now _ h = tt
+pub same_solutions : (told : Option Listing) (words : List (List ℕ)) (before now : Held) (outcome : Outcome) → WritesResult told words before now outcome → WritesSameSolutions told words before now outcome
+same_solutions None words before now o.Done h = h
+same_solutions (Some l) words before now o.Done h =
+    let w = h.1 in (w.request, w.text, h.0, w.asked, w.expanded, keeps w.request.job w.text h.0 w.done, h.2)
+same_solutions told words before now _ h = tt

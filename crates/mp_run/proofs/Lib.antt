@@ -1,4 +1,1 @@
-pub mod Places
-pub mod Ratios
-pub mod Steps
 pub mod Headlines

@@ -1,59 +1,39 @@
 -- What a run's answer says of its words, files and sinks.
-use Rattle.std.specs.Prelude.{◌≡◌, ◌⊎◌, ℕ, ◌<◌, List, Option, Some, IfSome, Result, Ok, Err}
+use Rattle.std.specs.Prelude.{◌≡◌, ◌⊎◌, ℕ, List, Option, Some, IfSome, Result, Ok, Err}
 use Rattle.mp_base.specs.declared.outcome.Outcome.{Outcome}
 use Rattle.mp_base.specs.declared.outcome.Outcome.TheVariants as o
-use Rattle.mp_syntax.specs.Tokens.{Tok, tokens}
-use Rattle.mp_syntax.specs.Syntax.{Statement}
-use Rattle.mp_syntax.specs.Grammar.{Reads}
-use Rattle.mp_syntax.specs.Spelling.{spelled_file}
-use Rattle.mp_outside.specs.Outside.{Outside, Held, Listing, lookup, Rose, CutOff, gained}
-use Rattle.mp_run.specs.Verdict.{Step, words_name, text_of, verdict}
+use Rattle.mp_base.specs.declared.job.Job.{Job}
+use Rattle.mp_base.specs.declared.job.Job.TheVariants as j
+use Rattle.mp_outside.specs.Outside.{Outside, Held, Listing, Rose, CutOff, gained}
+use Rattle.mp_words.specs.Words.{Request, request_of}
+use Rattle.mp_macro.specs.Expansion.{expands}
+use Rattle.mp_transform.specs.Steps.{Step, Refuses}
+use Rattle.mp_transform.specs.Canonical.{IsCanonical}
+use Rattle.mp_run.specs.Verdict.{verdict}
 
--- what a step of the code refused is what the definition refuses; want of memory may come at any time
-abbrev pub Refuses : {X : Type 0} → Step X → Outcome → Type 0
-Refuses gives o.NoMemory = Unit {0}
-Refuses gives (o.ReadFault count) = ⊥
-Refuses gives (o.WriteFault count) = ⊥
-Refuses gives o.Done = ⊥
-Refuses gives outcome = gives ≡ Err outcome
-
--- what a step of the code gave, seen by view, is what the definition gives
-abbrev pub Says : {X Y : Type 0} → (X → Y) → Step Y → Result X Outcome → Type 0
-Says view gives (Ok x) = gives ≡ Ok (view x)
-Says view gives (Err outcome) = Refuses gives outcome
-
--- the same of a step that reads files: they may have a fault
+-- what a step of the code that reads files refused is what the definition refuses; want of memory and a fault of the files may come at any time
 abbrev pub RefusesFiles : {X : Type 0} → Step X → Outcome → Type 0
 RefusesFiles gives (o.ReadFault count) = Unit {0}
 RefusesFiles gives outcome = Refuses gives outcome
 
+-- what such a step gave, seen by view, is what the definition gives, where the files are told
 abbrev pub SaysFiles : {X Y : Type 0} → (X → Y) → Option Listing → (Listing → Step Y) → Result X Outcome → Type 0
 SaysFiles view told gives (Ok x) = IfSome told (λ l. gives l ≡ Ok (view x))
 SaysFiles view told gives (Err outcome) = IfSome told (λ l. RefusesFiles (gives l) outcome)
 
 -- an outcome that ends a run before anything is written shows its cause, told or not
 abbrev pub ShowsCause : List (List ℕ) → Outside → Outside → Outcome → Type 0
-ShowsCause words before now (o.Words word) = words_name words ≡ Err (o.Words word)
-ShowsCause words before now (o.Absent name) = (words_name words ≡ Ok name) × Rose before.absents now.absents
-ShowsCause words before now (o.Macro kind file line) = (words_name words ≡ Ok file) × (8388608 < now.took)
+ShowsCause words before now (o.Words word) = request_of words ≡ Err word
+ShowsCause words before now (o.Absent name) = Rose before.absents now.absents
 ShowsCause words before now (o.ReadFault count) = Rose before.faults now.faults × (count ≡ now.faults)
 ShowsCause words before now _ = Unit {0}
 
--- the same of the reading of one file
-abbrev pub ReadShows : List ℕ → Outside → Outside → Outcome → Type 0
-ReadShows name before now (o.Absent n) = (n ≡ name) × Rose before.absents now.absents
-ReadShows name before now (o.Macro kind file line) = (file ≡ name) × (8388608 < now.took)
-ReadShows name before now (o.ReadFault count) = Rose before.faults now.faults × (count ≡ now.faults)
-ReadShows name before now o.NoMemory = Unit {0}
-ReadShows name before now _ = ⊥
-
--- a refusal of a text is of its tokens, its grammar, what it declares or its numbers
-abbrev pub TextShows : Outcome → Type 0
-TextShows (o.Text kind at token) = Unit {0}
-TextShows (o.Declared kind name at) = Unit {0}
-TextShows (o.Data kind at first second) = Unit {0}
-TextShows o.NoMemory = Unit {0}
-TextShows _ = ⊥
+-- the same of a step after the words
+abbrev pub FilesShow : Outside → Outside → Outcome → Type 0
+FilesShow before now (o.Absent name) = Rose before.absents now.absents
+FilesShow before now (o.ReadFault count) = Rose before.faults now.faults × (count ≡ now.faults)
+FilesShow before now (o.Words word) = ⊥
+FilesShow before now _ = Unit {0}
 
 -- nothing is done or written yet
 abbrev pub EndsEarly : Outcome → Type 0
@@ -81,23 +61,25 @@ ShowsSink before now (o.WriteFault count) = Rose before.faults now.faults × (co
 ShowsSink before now o.Done = Unit {0}
 ShowsSink before now _ = now ≡ before
 
--- these bytes are the canonical spelling of the file that the grammar reads from the tokens of the text under the name in the words
-pub record Transforms (words : List (List ℕ)) (l : Listing) (written : List ℕ) : Type 0 where
-  pub name : List ℕ
-  pub bytes : List ℕ
-  pub ts : List Tok
-  pub file : List Statement
-  pub named : words_name words ≡ Ok name
-  pub listed : lookup l name ≡ Some bytes
-  pub lexed : tokens (text_of bytes) ≡ Ok ts
-  pub reads : Reads ts file
-  pub spelled : written ≡ spelled_file file
+-- what a job writes for an expanded text: the text itself, or the canonical text of the model that it means
+abbrev pub IsDone : Job → List ℕ → List ℕ → Type 0
+IsDone j.Expand text written = written ≡ text
+IsDone j.Transform text written = IsCanonical text written
+IsDone _ text written = ⊥
+
+-- these bytes are what the words ask for, made of the expanded text of the file that they name
+pub record Writes (words : List (List ℕ)) (l : Listing) (written : List ℕ) : Type 0 where
+  pub request : Request
+  pub text : List ℕ
+  pub asked : request_of words ≡ Ok request
+  pub expanded : expands l request.file request.defines ≡ Ok text
+  pub done : IsDone request.job text written
 
 abbrev pub IfDone : Outcome → Type 0 → Type 0
 IfDone o.Done P = P
 IfDone _ P = Unit {0}
 
--- under Done the sink gained the canonical spelling of the text's file
-abbrev pub WritesCanonical : Option Listing → List (List ℕ) → Held → Held → Outcome → Type 0
-WritesCanonical told words before now outcome =
-    IfDone outcome (IfSome told (λ l. (written : List ℕ) × Transforms words l written × (now.taken ≡ gained before.taken written)))
+-- under Done the sink gained what the words ask for
+abbrev pub WritesResult : Option Listing → List (List ℕ) → Held → Held → Outcome → Type 0
+WritesResult told words before now outcome =
+    IfDone outcome (IfSome told (λ l. (written : List ℕ) × Writes words l written × (now.taken ≡ gained before.taken written)))

@@ -9,10 +9,11 @@ use std::marker::Brand;
 use std::sync::ledger::{Blank, Ledger};
 use std::test::Fail;
 
-// What a run is tried on. The file is named m; call number 0 never comes.
+// What a run is tried on. The file is named m, and both a and b hold the part; call number 0 never comes.
 #[derive(Drop)]
 struct Row<'a> {
     text: &'a [u8],
+    part: &'a [u8],
     failing_fetch: u64,
     out_room: usize,
     err_room: usize,
@@ -45,6 +46,8 @@ fn came_of<L: Ledger>(
     }
     let mut listing = Listing::new(alloc);
     listing.add(b"m", row.text)?;
+    listing.add(b"a", row.part)?;
+    listing.add(b"b", row.part)?;
     let mut failing = Calls::new(alloc);
     failing.add(row.failing_fetch)?;
     let mut files = MemFiles::new(listing, failing);
@@ -61,110 +64,67 @@ const TRANSFORM: &[&str] = &["transform", "m"];
 fn plain(text: &[u8]) -> Row<'_> {
     Row {
         text,
+        part: b"",
         failing_fetch: 0,
         out_room: 512,
         err_room: 512,
     }
 }
 
+// Each worked run gives what was worked out by hand.
 #[test]
 fn texts_are_transformed_or_refused(rt: HostRuntime) -> Result<(), Fail> {
-    let rows = [
-        (
-            b"var x; model; x = 2*x(-1); end;".as_slice(),
-            0,
-            b"var x;\nmodel;\nx = 2*x(-1);\nend;\n".as_slice(),
-            b"".as_slice(),
-        ),
-        (
-            b"var x, y z;\nvar w;model; x(0)-007*y(+01) ; y=z ;z=00;w=x;end ;",
-            0,
-            b"var x y z w;\nmodel;\nx-7*y(+1) = 0;\ny = z;\nz = 0;\nw = x;\nend;\n",
-            b"",
-        ),
-        (
-            b"var @",
-            5,
-            b"",
-            b"modpath: 5 Text kind=BadByte at=4 token=\n",
-        ),
-        (
-            b"var x; model; x = exp(x); end;",
-            5,
-            b"",
-            b"modpath: 5 Text kind=Token at=18 token=exp\n",
-        ),
-        (
-            b"var x; model; x = 1;",
-            5,
-            b"",
-            b"modpath: 5 Text kind=Token at=21 token=\n",
-        ),
-        (
-            b"var x; model; x = 10000000000000000000000000000000000001; end;",
-            7,
-            b"",
-            b"modpath: 7 Data kind=Literal at=18 first=0 second=37\n",
-        ),
-    ];
-    for (text, code, out, err) in rows.iter() {
-        let came = came_of::<Brand>(rt.alloc(), TRANSFORM, &plain(*text), Blank::new(1))?;
-        assert_eq!(rt; came.outcome.code(), *code);
-        assert_eq!(rt; came.out.taken(), *out);
-        assert_eq!(rt; came.err.taken(), *err);
+    for rows in [mp_vectors::TRANSFORMED, mp_vectors::REFUSED].iter() {
+        for row in *rows {
+            let came = came_of::<Brand>(rt.alloc(), TRANSFORM, &plain(row.text), Blank::new(1))?;
+            assert_eq!(rt; came.outcome.code(), row.status);
+            assert_eq!(rt; came.out.taken(), row.out);
+            assert_eq!(rt; came.err.taken(), row.err);
+        }
     }
     Ok(())
 }
 
-// The fault lines of texts that don't declare their model: the first fault of the points, else of the whole.
+const EXPAND: &[&str] = &["expand", "m"];
+
+// Each worked expansion gives what was worked out by hand.
 #[test]
-fn the_first_fault_is_named(rt: HostRuntime) -> Result<(), Fail> {
-    let rows = [
-        (
-            b"var x x; model; x = 1; end;".as_slice(),
-            b"modpath: 6 Declared kind=Twice name=x at=6\n".as_slice(),
-        ),
-        (
-            b"var x; model; x = 1; end; model; end;",
-            b"modpath: 6 Declared kind=BlockTwice name=model at=26\n",
-        ),
-        (
-            b"model; x(-2) = 1; end; var x;",
-            b"modpath: 6 Declared kind=Undeclared name=x at=7\n",
-        ),
-        (
-            b"var x; model; x = x(-2); end; var x;",
-            b"modpath: 6 Declared kind=LongShift name=x at=18\n",
-        ),
-        (
-            b"var x; model; x(+01) = y; end;",
-            b"modpath: 6 Declared kind=Undeclared name=y at=23\n",
-        ),
-        (b"", b"modpath: 6 Declared kind=NoModel name= at=0\n"),
-        (b"var x;", b"modpath: 6 Declared kind=NoModel name= at=7\n"),
-        (
-            b"model; end;",
-            b"modpath: 6 Declared kind=Empty name= at=12\n",
-        ),
-        (
-            b"var x; model; end;",
-            b"modpath: 6 Declared kind=EquationCount name= at=19\n",
-        ),
-        (
-            b"var x y; model; x = 1; end;",
-            b"modpath: 6 Declared kind=EquationCount name= at=28\n",
-        ),
-        (
-            b"var x; model; x = 1; 10000000000000000000000000000000000001; end;",
-            b"modpath: 6 Declared kind=EquationCount name= at=66\n",
-        ),
-    ];
-    for (text, err) in rows.iter() {
-        let came = came_of::<Brand>(rt.alloc(), TRANSFORM, &plain(*text), Blank::new(1))?;
-        assert_eq!(rt; came.outcome.code(), 6);
-        assert_eq!(rt; came.out.taken(), b"".as_slice());
-        assert_eq!(rt; came.err.taken(), *err);
+fn texts_are_expanded_or_refused(rt: HostRuntime) -> Result<(), Fail> {
+    for row in mp_vectors::EXPANDED {
+        let came = came_of::<Brand>(rt.alloc(), EXPAND, &plain(row.text), Blank::new(1))?;
+        assert_eq!(rt; came.outcome.code(), row.status);
+        assert_eq!(rt; came.out.taken(), row.out);
+        assert_eq!(rt; came.err.taken(), row.err);
     }
+    Ok(())
+}
+
+// Definitions in the words, a file that is included twice, and a text that is transformed once it is expanded.
+#[test]
+fn words_and_files_are_read_in_order(rt: HostRuntime) -> Result<(), Fail> {
+    let text = b"x@{N+1} // @{N}";
+    let words = ["expand", "m", "N=2"];
+    let came = came_of::<Brand>(rt.alloc(), words.as_slice(), &plain(text), Blank::new(1))?;
+    assert_eq!(rt; came.out.taken(), b"x3 // @{N}\n".as_slice());
+
+    let mut both = plain(b"@#include \"a\"\n@#include \"b\"");
+    both.part = b"p";
+    let came = came_of::<Brand>(rt.alloc(), EXPAND, &both, Blank::new(1))?;
+    assert_eq!(rt; came.out.taken(), b"p\np\n".as_slice());
+    both.failing_fetch = 3;
+    let came = came_of::<Brand>(rt.alloc(), EXPAND, &both, Blank::new(1))?;
+    assert_eq!(rt; came.outcome.code(), 11);
+    assert_eq!(rt;
+        came.err.taken(),
+        b"modpath: 11 ReadFault count=1\n".as_slice()
+    );
+
+    let text = b"@#define N = 2\nvar x; model; x = @{N}*x(-1); end;";
+    let came = came_of::<Brand>(rt.alloc(), TRANSFORM, &plain(text), Blank::new(1))?;
+    assert_eq!(rt;
+        came.out.taken(),
+        b"var x;\nmodel;\nx = 2*x(-1);\nend;\n".as_slice()
+    );
     Ok(())
 }
 
@@ -202,13 +162,15 @@ fn a_side_is_500_nodes_high_at_most(rt: HostRuntime) -> Result<(), Fail> {
 }
 
 #[test]
-fn words_are_transform_and_a_file(rt: HostRuntime) -> Result<(), Fail> {
+fn words_are_a_job_a_file_and_definitions(rt: HostRuntime) -> Result<(), Fail> {
     let words = ["transform", "m", "m"];
     let rows = [
         (&words[..0], 2, b"modpath: 2 Words word=1\n".as_slice()),
         (&words[1..], 2, b"modpath: 2 Words word=1\n"),
         (&words[..1], 2, b"modpath: 2 Words word=2\n"),
         (&words[..3], 2, b"modpath: 2 Words word=3\n"),
+        (&["expand", "m", "var=1"], 2, b"modpath: 2 Words word=3\n"),
+        (&["derive", "m"], 2, b"modpath: 2 Words word=1\n"),
         (&["transform", "-m"], 2, b"modpath: 2 Words word=2\n"),
         (
             &["transform", "nofile"],
@@ -255,30 +217,29 @@ fn faults_of_the_outside_are_told(rt: HostRuntime) -> Result<(), Fail> {
     Ok(())
 }
 
+// A file of so many blanks on one line: the line's newline is a byte of the expanded text.
 #[test]
-fn a_file_may_have_8388608_bytes(rt: HostRuntime) -> Result<(), Fail> {
-    let longest = vec![in rt.alloc(); b' '; 8_388_608]?;
-    let came = came_of::<Brand>(
-        rt.alloc(),
-        TRANSFORM,
-        &plain(longest.as_slice()),
-        Blank::new(1),
-    )?;
-    assert_eq!(rt;
-        came.err.taken(),
-        b"modpath: 6 Declared kind=NoModel name= at=8388609\n".as_slice()
-    );
-    let long = vec![in rt.alloc(); b' '; 8_388_609]?;
-    let came = came_of::<Brand>(
-        rt.alloc(),
-        TRANSFORM,
-        &plain(long.as_slice()),
-        Blank::new(1),
-    )?;
-    assert_eq!(rt; came.outcome.code(), 4);
-    assert_eq!(rt;
-        came.err.taken(),
-        b"modpath: 4 Macro kind=FileLong file=m line=0\n".as_slice()
-    );
+fn a_file_and_its_text_may_have_8388608_bytes(rt: HostRuntime) -> Result<(), Fail> {
+    let rows = [
+        (
+            8_388_607,
+            b"modpath: 6 Declared kind=NoModel name= at=8388608\n".as_slice(),
+        ),
+        (
+            8_388_608,
+            b"modpath: 4 Macro kind=TextLimit file=m line=1\n",
+        ),
+        (8_388_609, b"modpath: 4 Macro kind=FileLong file=m line=0\n"),
+    ];
+    for (size, err) in rows.iter() {
+        let text = vec![in rt.alloc(); b' '; *size]?;
+        let came = came_of::<Brand>(
+            rt.alloc(),
+            TRANSFORM,
+            &plain(text.as_slice()),
+            Blank::new(1),
+        )?;
+        assert_eq!(rt; came.err.taken(), *err);
+    }
     Ok(())
 }

@@ -1,16 +1,17 @@
 // The top call.
-ghost use Rattle.std.specs.Prelude.{◌≡◌, ◌<◌, ◌≤◌, ℕ, Err, MatchResult};
+ghost use Rattle.std.specs.Prelude.{◌≡◌, ◌≤◌, ℕ, length, Err, IfOk, IfSome, MatchResult};
 ghost use Rattle.mp_outside.specs.Outside.{Later, Tells};
+ghost use Rattle.mp_words.specs.Words.{IsBuilt, request_of};
 ghost use Rattle.mp_tell.specs.Lines.{line, HasReduced};
-ghost use Rattle.mp_run.specs.Verdict.{words_name, run_gives};
-ghost use Rattle.mp_run.specs.Answers.{SaysFiles, ShowsCause, EndsEarly, AsVerdict, Complete, ShowsSink, WritesCanonical};
+ghost use Rattle.mp_transform.specs.Steps.{Says, TextShows};
+ghost use Rattle.mp_run.specs.Verdict.{job_gives, run_gives};
+ghost use Rattle.mp_run.specs.Answers.{SaysFiles, ShowsCause, EndsEarly, AsVerdict, Complete, ShowsSink, IsDone, Writes, WritesResult};
 ghost use Rattle.mp_run.specs.Headline.{WritesSameSolutions};
 
-use crate::reading::{end_line, fetch};
-use crate::transform::transformed;
-use crate::words::file_of;
-use mp_base::{Bytes, Outcome, Steps, WordList};
+use crate::expanding::expanded;
+use mp_base::{Bytes, Job, Outcome, Steps, WordList};
 use mp_outside::{Files, Sink};
+use mp_words::WordFault;
 use std::alloc::Global;
 use std::sync::ledger::Ledger;
 
@@ -27,12 +28,12 @@ pub fn run<F: Files, O: Sink, E: Sink, L: Ledger>(
     // What is answered where the files tell their contents.
     ensures verdict { AsVerdict (F.outside files.old).listing words.now (O.held out.old) (O.held out.new) result }
     ensures complete { Complete words.now (F.outside files.old) (F.outside files.new) (O.held out.old) (O.held out.new) result }
-    ensures canonical { WritesCanonical (F.outside files.old).listing words.now (O.held out.old) (O.held out.new) result }
+    ensures result { WritesResult (F.outside files.old).listing words.now (O.held out.old) (O.held out.new) result }
     // A path solves what is written exactly when it solves what was read.
     ensures headline { WritesSameSolutions (F.outside files.old).listing words.now (O.held out.old) (O.held out.new) result }
 
     // What is answered in any case.
-    ensures wrong_words { (w : ℕ) → words_name words.now ≡ Err (Outcome.Words w) → result ≡ Outcome.Words w }
+    ensures wrong_words { (w : ℕ) → request_of words.now ≡ Err w → result ≡ Outcome.Words w }
     ensures cause { ShowsCause words.now (F.outside files.old) (F.outside files.new) result }
     ensures sink { ShowsSink (O.held out.old) (O.held out.new) result }
     ensures told { Tells (E.held err.old) (E.held err.new) (line result) }
@@ -40,7 +41,6 @@ pub fn run<F: Files, O: Sink, E: Sink, L: Ledger>(
     ensures counted { steps.new ≡ steps.old }
 {
     let _ = steps;
-    mp_model::headline_law();
     let outcome = written(alloc, words, files, out);
     mp_tell::tell(err, &outcome);
     outcome
@@ -54,14 +54,13 @@ fn written<F: Files, O: Sink>(
     out: &mut O,
 ) -> Outcome
     ensures verdict { AsVerdict (F.outside files.old).listing words.now (O.held out.old) (O.held out.new) result }
-    ensures canonical { WritesCanonical (F.outside files.old).listing words.now (O.held out.old) (O.held out.new) result }
-    ensures wrong_words { (w : ℕ) → words_name words.now ≡ Err (Outcome.Words w) → result ≡ Outcome.Words w }
+    ensures result { WritesResult (F.outside files.old).listing words.now (O.held out.old) (O.held out.new) result }
+    ensures wrong_words { (w : ℕ) → request_of words.now ≡ Err w → result ≡ Outcome.Words w }
     ensures cause { ShowsCause words.now (F.outside files.old) (F.outside files.new) result }
     ensures sink { ShowsSink (O.held out.old) (O.held out.new) result }
     ensures reduced { HasReduced result }
     ensures later { Later (F.outside files.old) (F.outside files.new) }
 {
-    mp_reading::grammar_law();
     let bytes = match result_of(alloc, words, files) {
         Ok(bytes) => bytes,
         Err(outcome) => return outcome,
@@ -74,29 +73,38 @@ fn written<F: Files, O: Sink>(
     }
 }
 
-// The bytes that the job writes, or the outcome that ends the run before anything is written.
+// The bytes that the words ask for, or the outcome that ends the run before anything is written.
 fn result_of<F: Files>(alloc: Global, words: &WordList, files: &mut F) -> Result<Bytes, Outcome>
     ensures says { SaysFiles (λ bytes. bytes) (F.outside files.old).listing (run_gives words.now) result }
-    ensures wrong_words { (w : ℕ) → words_name words.now ≡ Err (Outcome.Words w) → result ≡ Err (Outcome.Words w) }
+    ensures writes { IfOk result (λ bytes. IfSome (F.outside files.old).listing (λ l. Writes words.now l bytes)) }
+    ensures wrong_words { (w : ℕ) → request_of words.now ≡ Err w → result ≡ Err (Outcome.Words w) }
     ensures cause { MatchResult result (λ _. Unit {0}) (ShowsCause words.now (F.outside files.old) (F.outside files.new)) }
     ensures reduced { MatchResult result (λ _. Unit {0}) HasReduced }
     ensures early { MatchResult result (λ _. Unit {0}) EndsEarly }
     ensures later { Later (F.outside files.old) (F.outside files.new) }
 {
-    let name = match file_of(words) {
-        Ok(name) => name,
-        Err(wrong) => return Err(Outcome::Words { word: wrong.word }),
+    let request = match mp_words::read_words(alloc, words) {
+        Ok(request) => request,
+        Err(WordFault::Refused { word }) => return Err(Outcome::Words { word }),
+        Err(WordFault::NoMemory) => return Err(Outcome::NoMemory),
     };
-    let mut text = Bytes::new(alloc);
-    match fetch(files, name.as_bytes(), &mut text) {
-        Ok(()) => {}
-        Err(outcome) => return Err(outcome),
-    }
-    if end_line(&mut text).is_err() {
-        return Err(Outcome::NoMemory);
-    }
-    match transformed(alloc, text.as_slice()) {
-        Ok(bytes) => Ok(bytes),
+    match expanded(alloc, files, &request) {
+        Ok(text) => done(alloc, request.job, text),
         Err(outcome) => Err(outcome),
+    }
+}
+
+// What a job makes of the expanded text.
+fn done(alloc: Global, job: Job, text: Bytes) -> Result<Bytes, Outcome>
+    requires built { IsBuilt job }
+    requires short { length text ≤ 8388608 }
+    ensures says { Says (λ bytes. bytes) (job_gives job text) result }
+    ensures done { IfOk result (λ bytes. IsDone job text bytes) }
+    ensures shows { MatchResult result (λ _. Unit {0}) TextShows }
+    ensures reduced { MatchResult result (λ _. Unit {0}) HasReduced }
+{
+    match job {
+        Job::Expand => Ok(text),
+        _ => mp_transform::transformed(alloc, text.as_slice()),
     }
 }

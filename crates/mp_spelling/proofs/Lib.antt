@@ -1,8 +1,11 @@
+pub mod Again
+pub mod Aparts
+pub mod FileAgain
+pub mod Numbers
+pub mod Ones
+pub mod Pieces
 pub mod PieceLaws
 pub mod Texts
-pub mod Aparts
-pub mod Again
 pub mod TokenWords
+pub mod Words
 pub mod WrittenLaws
-pub mod Backs
-pub mod Same

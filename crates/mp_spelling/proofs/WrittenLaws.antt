@@ -1,182 +1,223 @@
--- What the grammar reads from words is a file as a text may write it.
-use Rattle.std.proofs.Common.{◌≡◌, ℕ, List, [], ◌∷◌, ◌++◌, cond, Bool, true, false, ◌&&◌, ◌==◌, Some, refl, ap, ◌∙◌, codes}
-use Rattle.std.specs.Char.{is_ascii_digit}
+-- What the grammar reads from the tokens of a text is a file as a text may write it.
+use Rattle.std.proofs.Common.{◌≡◌, ℕ, zero, suc, ◌≤◌, List, [], ◌∷◌, cond, Bool, true, false, Option, Some, None, nat_le, Ok, refl, subst, arith, codes}
 use Rattle.std.specs.Str.{bytes_eq}
-use Rattle.std.specs.List.{list_all, flat_map}
+use Rattle.std.proofs.lemmas.Bool.Decides.{nat_tests}
 use Rattle.mp_syntax.specs.declared.token.TokenKind.{TokenKind}
 use Rattle.mp_syntax.specs.declared.token.TokenKind.TheVariants as k
+use Rattle.mp_syntax.specs.declared.terminal.Terminal.{Terminal}
 use Rattle.mp_syntax.specs.declared.terminal.Terminal.TheVariants as t
 use Rattle.mp_syntax.specs.declared.terminal.Sign.{Sign}
 use Rattle.mp_syntax.specs.declared.terminal.Sign.TheVariants as sign
-use Rattle.mp_syntax.specs.Tokens.{Tok, is_first, kind_of, symbol_of}
+use Rattle.mp_syntax.specs.declared.terminal.Scale.{Scale}
+use Rattle.mp_syntax.specs.declared.terminal.Scale.TheVariants as scale
+use Rattle.mp_syntax.specs.Tokens.{Tok, tokens}
 use Rattle.mp_syntax.specs.Terminals.{terminal_by, terminal_of, word_of, is_reserved}
-use Rattle.mp_syntax.specs.Syntax.{Shift, Named, Expr, Number, Variable, Plus, Minus, Times, Term, Factor, joined, with_terms, with_factors, Item, Statement, Vars, Model}
+use Rattle.mp_syntax.specs.Syntax.{Shift, Expr, Term, Factor, joined, scaled, with_terms, with_factors, signed, Statement}
 use Rattle.mp_syntax.specs.Grammar as g
-use Rattle.mp_syntax.specs.Grammar.{Is, Many, ShiftReads, AtomReads, TimesReads, ProductReads, PlusReads, SumReads, ItemReads, NameReads, StatementReads}
-use Rattle.mp_syntax.specs.Spelling.{items_in}
-use Rattle.mp_spelling.specs.Pieces.{IsWord}
-use Rattle.mp_spelling.specs.Written.{IsName, AreDigits, IsShift, IsAtom, IsProduct, IsSum, IsItem, Each, IsNamed, IsStatement}
-use Rattle.mp_spelling.specs.Normal.{declared_in}
-use Rattle.mp_spelling.proofs.TokenWords.{IsToken}
+use Rattle.mp_syntax.specs.Grammar.{Is, Reading, Nothing, Many, SignReads, ShiftReads, AtomReads, PowerReads, FactorReads, TimesReads, ProductReads, PlusReads, SumReads, ExprReads, ItemReads, NameReads, StatementReads, Reads}
+use Rattle.mp_spelling.specs.Written.{IsName, IsLiteral, AreDigits, IsShift, level, Reaches, InForm, nest, IsExpression, IsItem, Each, IsNamed, IsStatement, IsFile}
+use Rattle.mp_spelling.proofs.TokenWords.{Carries, IsToken, tokens-words}
 
--- a choice is not this where neither side is
-neither : {X : Type 0} (c : Bool) (x y z : X) → (x ≡ z → ⊥) → (y ≡ z → ⊥) → cond c x y ≡ z → ⊥
-neither true x y z p q e = p e
-neither false x y z p q e = q e
+-- the terminal of no number
+abbrev NoNumber : Terminal → Type 0
+NoNumber t.Whole = ⊥
+NoNumber t.Number = ⊥
+NoNumber _ = Unit {0}
 
-no_symbol : (b : ℕ) → symbol_of b ≡ Some k.Whole → ⊥
-no_symbol b =
-    neither (b == 59) _ _ _ (λ e. cc) (neither (b == 44) _ _ _ (λ e. cc) (neither (b == 61) _ _ _ (λ e. cc) (neither (b == 40) _ _ _ (λ e. cc) (neither (b == 41) _ _ _ (λ e. cc) (neither (b == 43) _ _ _ (λ e. cc) (neither (b == 45) _ _ _ (λ e. cc) (neither (b == 42) _ _ _ (λ e. cc) (λ e. cc))))))))
+none_if : (c : Bool) (x y : Terminal) → NoNumber x → NoNumber y → NoNumber (cond c x y)
+none_if true x y p q = p
+none_if false x y p q = q
 
-no_word : (bs : List ℕ) → word_of bs ≡ t.Whole → ⊥
-no_word bs =
-    neither (bytes_eq bs (codes "var")) _ _ _ (λ e. cc) (neither (bytes_eq bs (codes "model")) _ _ _ (λ e. cc) (neither (bytes_eq bs (codes "end")) _ _ _ (λ e. cc) (neither (is_reserved bs) _ _ _ (λ e. cc) (λ e. cc))))
+-- a word is no number
+no_number : (bs : List ℕ) → NoNumber (word_of bs)
+no_number bs =
+    none_if (bytes_eq bs (codes "var")) _ _ tt (none_if (bytes_eq bs (codes "varexo")) _ _ tt (none_if (bytes_eq bs (codes "parameters")) _ _ tt (none_if (bytes_eq bs (codes "model")) _ _ tt (none_if (bytes_eq bs (codes "end")) _ _ tt (none_if (bytes_eq bs (codes "min")) _ _ tt (none_if (bytes_eq bs (codes "max")) _ _ tt (none_if (is_reserved bs) _ _ tt tt)))))))
 
-first_digit : (b : ℕ) → kind_of b ≡ Some k.Whole → is_ascii_digit b ≡ true
-first_digit b e = by (is_first b) (is_ascii_digit b) e
-  where
-    by : (first digit : Bool) → cond first (Some k.Name) (cond digit (Some k.Whole) (symbol_of b)) ≡ Some k.Whole → digit ≡ true
-    by true digit h = absurd cc
-    by false true h = refl
-    by false false h = absurd (no_symbol b h)
+whole_by : (kind : TokenKind) (bytes : List ℕ) → Carries kind bytes → terminal_by kind bytes ≡ t.Whole → IsLiteral bytes × AreDigits bytes
+whole_by k.Whole bs is e = is
+whole_by k.Name bs is e = absurd (subst NoNumber e (no_number bs))
+whole_by _ bs is e = absurd cc
 
-digits_by : (kind : TokenKind) (bytes : List ℕ) → IsWord kind bytes → terminal_by kind bytes ≡ t.Whole → AreDigits bytes
-digits_by k.Whole [] w e = absurd w
-digits_by k.Whole (b ∷ bs) w e = ap (λ c. c && list_all is_ascii_digit bs) (first_digit b w.0) ∙ w.2
-digits_by k.Name bs w e = absurd (no_word bs e)
-digits_by k.Semicolon bs w e = absurd cc
-digits_by k.Comma bs w e = absurd cc
-digits_by k.Equals bs w e = absurd cc
-digits_by k.Open bs w e = absurd cc
-digits_by k.Close bs w e = absurd cc
-digits_by k.Plus bs w e = absurd cc
-digits_by k.Minus bs w e = absurd cc
-digits_by k.Star bs w e = absurd cc
+number_by : (kind : TokenKind) (bytes : List ℕ) → Carries kind bytes → terminal_by kind bytes ≡ t.Number → IsLiteral bytes
+number_by k.Number bs is e = is
+number_by k.Name bs is e = absurd (subst NoNumber e (no_number bs))
+number_by _ bs is e = absurd cc
 
-name_by : (kind : TokenKind) (bytes : List ℕ) → IsWord kind bytes → terminal_by kind bytes ≡ t.Name → IsName bytes
-name_by k.Name bs w e = (w, e)
-name_by k.Whole bs w e = absurd cc
-name_by k.Semicolon bs w e = absurd cc
-name_by k.Comma bs w e = absurd cc
-name_by k.Equals bs w e = absurd cc
-name_by k.Open bs w e = absurd cc
-name_by k.Close bs w e = absurd cc
-name_by k.Plus bs w e = absurd cc
-name_by k.Minus bs w e = absurd cc
-name_by k.Star bs w e = absurd cc
+name_by : (kind : TokenKind) (bytes : List ℕ) → Carries kind bytes → terminal_by kind bytes ≡ t.Name → IsName bytes
+name_by k.Name bs is e = (is, e)
+name_by _ bs is e = absurd cc
 
-digits : (w : Tok) → IsToken w → Is t.Whole w → AreDigits w.bytes
+whole : (w : Tok) → IsToken w → Is t.Whole w → IsLiteral w.bytes × AreDigits w.bytes
 unfolding terminal_of
-digits w is e = digits_by w.kind w.bytes is e
+whole w is e = whole_by w.kind w.bytes is e
+
+number : (w : Tok) → IsToken w → Is t.Number w → IsLiteral w.bytes
+unfolding terminal_of
+number w is e = number_by w.kind w.bytes is e
 
 name : (w : Tok) → IsToken w → Is t.Name w → IsName w.bytes
 unfolding terminal_of
 name w is e = name_by w.kind w.bytes is e
 
-atom_product : (e : Expr) → IsAtom e → IsProduct e
-atom_product (Number digits at) is = is
-atom_product (Variable name shift) is = is
-atom_product (Plus a at b) is = absurd is
-atom_product (Minus a at b) is = absurd is
-atom_product (Times a at b) is = absurd is
+-- in form, bound as tightly as this, and with so many "(" open at most
+abbrev Fits : ℕ → ℕ → Expr → Type 0
+Fits l room e = InForm e × Reaches l e × (nest e ≤ room)
 
-product_sum : (e : Expr) → IsProduct e → IsSum e
-product_sum (Number digits at) is = is
-product_sum (Variable name shift) is = is
-product_sum (Plus a at b) is = absurd is
-product_sum (Minus a at b) is = absurd is
-product_sum (Times a at b) is = is
+lower : (l m : ℕ) (e : Expr) → m ≤ l → Reaches l e → Reaches m e
+lower l m e le reaches = by (level e) reaches
+  where
+    by : (n : ℕ) → nat_le l n ≡ true → nat_le m n ≡ true
+    by n h = grind (arith, nat_tests)
 
-abbrev IsFactor : Factor → Type 0
-IsFactor x = IsAtom x.atom
+lowered : (l m room : ℕ) (e : Expr) → m ≤ l → Fits l room e → Fits m room e
+lowered l m room e le is = (is.0, lower l m e le is.1, is.2)
 
-abbrev IsTerm : Term → Type 0
-IsTerm x = IsProduct x.product
+scaled_fits : (room : ℕ) (s : Scale) (a : Expr) (at : ℕ) (b : Expr) → Fits 2 room a → Fits 3 room b → Fits 2 room (scaled s a at b)
+scaled_fits room scale.Times a at b x y = ((x.0, y.0, x.1, y.1), refl, omega arith)
+scaled_fits room scale.Over a at b x y = ((x.0, y.0, x.1, y.1), refl, omega arith)
 
-factors_product : (e : Expr) (more : List Factor) → IsProduct e → Each IsFactor more → IsProduct (with_factors e more)
-factors_product e [] is each = is
-factors_product e (x ∷ more) is each = factors_product (Times e x.at x.atom) more (is, each.0) each.1
+joined_fits : (room : ℕ) (s : Sign) (a : Expr) (at : ℕ) (b : Expr) → Fits 1 room a → Fits 2 room b → Fits 1 room (joined s a at b)
+joined_fits room sign.Plus a at b x y = ((x.0, y.0, y.1), refl, omega arith)
+joined_fits room sign.Minus a at b x y = ((x.0, y.0, y.1), refl, omega arith)
 
-joined_sum : (s : Sign) (e : Expr) (at : ℕ) (p : Expr) → IsSum e → IsProduct p → IsSum (joined s e at p)
-joined_sum sign.Plus e at p is product = (is, product)
-joined_sum sign.Minus e at p is product = (is, product)
+signed_fits : (room : ℕ) (s : Option Sign) (e : Expr) → Fits 4 room e → Fits 3 room (signed s e)
+signed_fits room None e is = lowered 4 3 room e (omega arith) is
+signed_fits room (Some s) e is = ((is.0, is.1), refl, is.2)
 
-terms_sum : (e : Expr) (more : List Term) → IsSum e → Each IsTerm more → IsSum (with_terms e more)
-terms_sum e [] is each = is
-terms_sum e (x ∷ more) is each = terms_sum (joined x.sign e x.at x.product) more (joined_sum x.sign e x.at x.product is each.0) each.1
+abbrev FactorFits : ℕ → Factor → Type 0
+FactorFits room x = Fits 3 room x.power
 
--- what reads from words keeps to this, and words are left
+abbrev TermFits : ℕ → Term → Type 0
+TermFits room x = Fits 2 room x.product
+
+factors_fit : (room : ℕ) (e : Expr) (more : List Factor) → Fits 2 room e → Each (FactorFits room) more → Fits 2 room (with_factors e more)
+factors_fit room e [] is each = is
+factors_fit room e (x ∷ more) is each =
+    factors_fit room (scaled x.scale e x.at x.power) more (scaled_fits room x.scale e x.at x.power is each.0) each.1
+
+terms_fit : (room : ℕ) (e : Expr) (more : List Term) → Fits 1 room e → Each (TermFits room) more → Fits 1 room (with_terms e more)
+terms_fit room e [] is each = is
+terms_fit room e (x ∷ more) is each =
+    terms_fit room (joined x.sign e x.at x.product) more (joined_fits room x.sign e x.at x.product is each.0) each.1
+
+-- what reads from a text's tokens keeps to this, and a text's tokens are left
 abbrev Keeps : {X : Type 0} → (X → Type 0) → X → List Tok → Type 0
 Keeps P x rest = P x × Each IsToken rest
 
-many : {X : Type 0} (R : List Tok → X → List Tok → Type 0) (P : X → Type 0) → ((ts : List Tok) (x : X) (rest : List Tok) → R ts x rest → Each IsToken ts → Keeps P x rest) → (ts : List Tok) (xs : List X) (rest : List Tok) → Many R ts xs rest → Each IsToken ts → Keeps (Each P) xs rest
+abbrev AllKeep : {X : Type 0} → (List Tok → X → List Tok → Type 0) → (X → Type 0) → Type 0
+AllKeep {X} R P = (ts : List Tok) (x : X) (rest : List Tok) → R ts x rest → Each IsToken ts → Keeps P x rest
+
+many : {X : Type 0} (R : List Tok → X → List Tok → Type 0) (P : X → Type 0) → AllKeep R P → AllKeep (Many R) (Each P)
 many R P one ts xs rest (g.Many.none last) words = (tt, words)
 many R P one ts xs rest (g.Many.next us mid last x more reads after) words =
     let a = one us x mid reads words in
     let b = many R P one mid more last after a.1 in
     ((a.0, b.0), b.1)
 
+sign_keeps : (R : Reading) (P : Expr → Type 0) → AllKeep R P → (ts : List Tok) (s : Option Sign) (e : Expr) (rest : List Tok) → SignReads R ts s e rest → Each IsToken ts → Keeps P e rest
+sign_keeps R P one ts s e rest (g.SignReads.bare us last x reads) words = one us x last reads words
+sign_keeps R P one ts s e rest (g.SignReads.plus o us last x i reads) words = one us x last reads words.1
+sign_keeps R P one ts s e rest (g.SignReads.minus o us last x i reads) words = one us x last reads words.1
+
 shift : (ts : List Tok) (s : Shift) (rest : List Tok) → ShiftReads ts s rest → Each IsToken ts → Keeps IsShift (Some s) rest
-shift ts s rest (g.ShiftReads.plain w last e) words = (digits w words.0 e, words.1)
-shift ts s rest (g.ShiftReads.plus o w last p e) words = (digits w words.1.0 e, words.1.1)
-shift ts s rest (g.ShiftReads.minus o w last p e) words = (digits w words.1.0 e, words.1.1)
+shift ts s rest (g.ShiftReads.plain w last i) words = ((whole w words.0 i).1, words.1)
+shift ts s rest (g.ShiftReads.plus o w last p i) words = ((whole w words.1.0 i).1, words.1.1)
+shift ts s rest (g.ShiftReads.minus o w last p i) words = ((whole w words.1.0 i).1, words.1.1)
 
-atom : (ts : List Tok) (e : Expr) (rest : List Tok) → AtomReads ts e rest → Each IsToken ts → Keeps IsAtom e rest
-atom ts e rest (g.AtomReads.number w last i) words = (digits w words.0 i, words.1)
-atom ts e rest (g.AtomReads.name n last i) words = ((name n words.0 i, tt), words.1)
-atom ts e rest (g.AtomReads.shifted n o c us last s i p reads q) words =
-    let a = shift us s (c ∷ last) reads words.1.1 in ((name n words.0 i, a.0), a.1.1)
+-- with what stands in a "(" so far
+module _ (room : ℕ) (Inside : Reading) (within : AllKeep Inside (λ e. InForm e × (suc (nest e) ≤ room))) where
+  atom : AllKeep (AtomReads room Inside) (Fits 5 room)
+  atom ts e rest (g.AtomReads.whole w last i) words = (((whole w words.0 i).0, refl, omega arith), words.1)
+  atom ts e rest (g.AtomReads.number w last i) words = ((number w words.0 i, refl, omega arith), words.1)
+  atom ts e rest (g.AtomReads.name n last i) words = (((name n words.0 i, tt), refl, omega arith), words.1)
+  atom ts e rest (g.AtomReads.shifted n o c us last s i lt p reads q) words =
+      let a = shift us s (c ∷ last) reads words.1.1 in
+      (((name n words.0 i, a.0), refl, omega arith), a.1.1)
+  atom ts e rest (g.AtomReads.paren o c us last x lt p reads q) words =
+      let a = within us x (c ∷ last) reads words.1 in
+      ((a.0.0, refl, a.0.1), a.1.1)
+  atom ts e rest (g.AtomReads.min m o c d us vs last x y i lt p left q right z) words =
+      let a = within us x (c ∷ vs) left words.1.1 in
+      let b = within vs y (d ∷ last) right a.1.1 in
+      (((a.0.0, b.0.0), refl, omega (arith, a.0.1, b.0.1)), b.1.1)
+  atom ts e rest (g.AtomReads.max m o c d us vs last x y i lt p left q right z) words =
+      let a = within us x (c ∷ vs) left words.1.1 in
+      let b = within vs y (d ∷ last) right a.1.1 in
+      (((a.0.0, b.0.0), refl, omega (arith, a.0.1, b.0.1)), b.1.1)
 
-factor : (ts : List Tok) (x : Factor) (rest : List Tok) → TimesReads ts x rest → Each IsToken ts → Keeps IsFactor x rest
-factor ts x rest (g.TimesReads.times s us last e i reads) words = atom us e last reads words.1
+  power : AllKeep (PowerReads room Inside) (Fits 4 room)
+  power ts e rest (g.PowerReads.atom us last x reads) words =
+      let a = atom us x last reads words in
+      (lowered 5 4 room x (omega arith) a.0, a.1)
+  power ts e rest (g.PowerReads.power c us vs last x y s base i exponent) words =
+      let a = atom us x (c ∷ vs) base words in
+      let b = sign_keeps (AtomReads room Inside) (Fits 5 room) atom vs s y last exponent a.1.1 in
+      (((a.0.0, b.0.0, a.0.1, b.0.1), refl, omega (arith, a.0.2, b.0.2)), b.1)
 
-product : (ts : List Tok) (e : Expr) (rest : List Tok) → ProductReads ts e rest → Each IsToken ts → Keeps IsProduct e rest
-product ts e rest (g.ProductReads.product us mid last first more reads after) words =
-    let a = atom us first mid reads words in
-    let b = many TimesReads IsFactor factor mid more last after a.1 in
-    (factors_product first more (atom_product first a.0) b.0, b.1)
+  factor : AllKeep (FactorReads room Inside) (Fits 3 room)
+  factor ts e rest (g.FactorReads.factor us last s x reads) words =
+      let a = sign_keeps (PowerReads room Inside) (Fits 4 room) power us s x last reads words in
+      (signed_fits room s x a.0, a.1)
 
-term : (ts : List Tok) (x : Term) (rest : List Tok) → PlusReads ts x rest → Each IsToken ts → Keeps IsTerm x rest
-term ts x rest (g.PlusReads.plus s us last e i reads) words = product us e last reads words.1
-term ts x rest (g.PlusReads.minus s us last e i reads) words = product us e last reads words.1
+  times : AllKeep (TimesReads room Inside) (FactorFits room)
+  times ts x rest (g.TimesReads.times s us last e i reads) words = factor us e last reads words.1
+  times ts x rest (g.TimesReads.over s us last e i reads) words = factor us e last reads words.1
 
-sum : (ts : List Tok) (e : Expr) (rest : List Tok) → SumReads ts e rest → Each IsToken ts → Keeps IsSum e rest
-sum ts e rest (g.SumReads.sum us mid last first more reads after) words =
-    let a = product us first mid reads words in
-    let b = many PlusReads IsTerm term mid more last after a.1 in
-    (terms_sum first more (product_sum first a.0) b.0, b.1)
+  product : AllKeep (ProductReads room Inside) (Fits 2 room)
+  product ts e rest (g.ProductReads.product us mid last first more reads after) words =
+      let a = factor us first mid reads words in
+      let b = many (TimesReads room Inside) (FactorFits room) times mid more last after a.1 in
+      (factors_fit room first more (lowered 3 2 room first (omega arith) a.0) b.0, b.1)
 
-item : (ts : List Tok) (x : Item) (rest : List Tok) → ItemReads ts x rest → Each IsToken ts → Keeps IsItem x rest
-item ts x rest (g.ItemReads.alone c us last e reads i) words = let a = sum us e (c ∷ last) reads words in ((a.0, tt), a.1.1)
+  plus : AllKeep (PlusReads room Inside) (TermFits room)
+  plus ts x rest (g.PlusReads.plus s us last e i reads) words = product us e last reads words.1
+  plus ts x rest (g.PlusReads.minus s us last e i reads) words = product us e last reads words.1
+
+  sum : AllKeep (SumReads room Inside) (Fits 1 room)
+  sum ts e rest (g.SumReads.sum us mid last first more reads after) words =
+      let a = product us first mid reads words in
+      let b = many (PlusReads room Inside) (TermFits room) plus mid more last after a.1 in
+      (terms_fit room first more (lowered 2 1 room first (omega arith) a.0) b.0, b.1)
+
+-- what stands in a "(" leaves room for it
+one_inside : (room : ℕ) → AllKeep (ExprReads room) (Fits 1 room) → AllKeep (ExprReads room) (λ e. InForm e × (suc (nest e) ≤ suc room))
+one_inside room keep ts e rest reads words =
+    let a = keep ts e rest reads words in
+    ((a.0.0, omega (arith, a.0.2)), a.1)
+
+expr : (room : ℕ) → AllKeep (ExprReads room) (Fits 1 room)
+unfolding ExprReads
+expr zero ts e rest reads words = sum zero Nothing (λ us x last r w. absurd r) ts e rest reads words
+expr (suc room) ts e rest reads words =
+    sum (suc room) (ExprReads room) (one_inside room (λ us x last r w. expr room us x last r w)) ts e rest reads words
+
+whole_expr : AllKeep (ExprReads 500) IsExpression
+whole_expr ts e rest reads words = let a = expr 500 ts e rest reads words in ((a.0.0, a.0.2), a.1)
+
+item : AllKeep ItemReads IsItem
+item ts x rest (g.ItemReads.alone c us last e reads i) words =
+    let a = whole_expr us e (c ∷ last) reads words in
+    ((a.0, tt), a.1.1)
 item ts x rest (g.ItemReads.equation q c us vs last e f left i right j) words =
-    let a = sum us e (q ∷ vs) left words in
-    let b = sum vs f (c ∷ last) right a.1.1 in
+    let a = whole_expr us e (q ∷ vs) left words in
+    let b = whole_expr vs f (c ∷ last) right a.1.1 in
     ((a.0, b.0), b.1.1)
 
-each_name : (ts : List Tok) (n : Named) (rest : List Tok) → NameReads ts n rest → Each IsToken ts → Keeps IsNamed n rest
+each_name : AllKeep NameReads IsNamed
 each_name ts n rest (g.NameReads.bare w last i) words = (name w words.0 i, words.1)
 each_name ts n rest (g.NameReads.comma c w last p i) words = (name w words.1.0 i, words.1.1)
 
-statement : (ts : List Tok) (s : Statement) (rest : List Tok) → StatementReads ts s rest → Each IsToken ts → Keeps IsStatement s rest
-statement ts s rest (g.StatementReads.vars v n c us last more p i reads q) words =
-    let a = many NameReads IsNamed each_name us more (c ∷ last) reads words.1.1 in ((name n words.1.0 i, a.0), a.1.1)
+statement : AllKeep StatementReads IsStatement
+statement ts s rest (g.StatementReads.declares v n c us last kind more p i reads q) words =
+    let a = many NameReads IsNamed each_name us more (c ∷ last) reads words.1.1 in
+    ((omega arith, (name n words.1.0 i, a.0)), a.1.1)
+statement ts s rest (g.StatementReads.assigns n q c us last e i p reads r) words =
+    let a = whole_expr us e (c ∷ last) reads words.1.1 in
+    ((name n words.0 i, a.0), a.1.1)
 statement ts s rest (g.StatementReads.model m c e d us last items p q reads r z) words =
-    let a = many ItemReads IsItem item us items (e ∷ d ∷ last) reads words.1.1 in (a.0, a.1.1.1)
+    let a = many ItemReads IsItem item us items (e ∷ d ∷ last) reads words.1.1 in
+    (a.0, a.1.1.1)
 
--- a file that was read
-pub file_read : (ts : List Tok) (file : List Statement) → Many StatementReads ts file [] → Each IsToken ts → Each IsStatement file
-file_read ts file reads words = (many StatementReads IsStatement statement ts file [] reads words).0
-
-each-append : {X : Type 0} (P : X → Type 0) (xs ys : List X) → Each P xs → Each P ys → Each P (xs ++ ys)
-each-append P [] ys a b = b
-each-append P (x ∷ xs) ys a b = (a.0, each-append P xs ys a.1 b)
-
-pub names_each : (file : List Statement) → Each IsStatement file → Each IsNamed (flat_map declared_in file)
-names_each [] is = tt
-names_each (Vars names ∷ file) is = each-append IsNamed names (flat_map declared_in file) is.0 (names_each file is.1)
-names_each (Model at items ∷ file) is = names_each file is.1
-
-pub items_each : (file : List Statement) → Each IsStatement file → Each IsItem (flat_map items_in file)
-items_each [] is = tt
-items_each (Vars names ∷ file) is = items_each file is.1
-items_each (Model at items ∷ file) is = each-append IsItem items (flat_map items_in file) is.0 (items_each file is.1)
+pub file_written : (text : List ℕ) (ts : List Tok) (file : List Statement) → tokens text ≡ Ok ts → Reads ts file → IsFile file
+file_written text ts file e reads =
+    (many StatementReads IsStatement statement ts file [] reads (tokens-words text ts e)).0

@@ -1,5 +1,4 @@
 pub mod Back
-pub mod Normal
-pub mod Pieces
-pub mod Words
+pub mod Printed
+pub mod Spelled
 pub mod Written

@@ -36,7 +36,7 @@ is_reserved bs = is_one_of reserved_words bs
 -- a word that is a terminal of its own, a reserved word or a name
 abbrev pub word_of : List ℕ → Terminal
 word_of bs =
-    if bytes_eq bs (codes "var") then t.Var else if bytes_eq bs (codes "model") then t.Model else if bytes_eq bs (codes "end") then t.End else if is_reserved bs then t.Reserved else t.Name
+    if bytes_eq bs (codes "var") then t.Var else if bytes_eq bs (codes "varexo") then t.Varexo else if bytes_eq bs (codes "parameters") then t.Parameters else if bytes_eq bs (codes "model") then t.Model else if bytes_eq bs (codes "end") then t.End else if bytes_eq bs (codes "min") then t.Min else if bytes_eq bs (codes "max") then t.Max else if is_reserved bs then t.Reserved else t.Name
 
 abbrev pub terminal_by : TokenKind → List ℕ → Terminal
 terminal_by k.Name bs = word_of bs
@@ -49,6 +49,10 @@ terminal_by k.Close bs = t.Close
 terminal_by k.Plus bs = t.Plus
 terminal_by k.Minus bs = t.Minus
 terminal_by k.Star bs = t.Star
+terminal_by k.Slash bs = t.Slash
+terminal_by k.Caret bs = t.Caret
+terminal_by k.Number bs = t.Number
+terminal_by _ bs = t.Other
 
 unfoldable pub terminal_of : Tok → Terminal
 terminal_of t = terminal_by t.kind t.bytes

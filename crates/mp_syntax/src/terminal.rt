@@ -1,14 +1,20 @@
 // What the grammar sees.
 
-/// What a token is to the grammar. `Reserved` is a reserved word that no production takes.
+/// What a token is to the grammar. `Reserved` is a reserved word that no production takes, and `Other` any other token
+/// that none takes.
 #[derive(Clone, Copy, Debug, PartialEq, Eq)]
 pub enum Terminal {
     Var,
+    Varexo,
+    Parameters,
     Model,
     End,
+    Min,
+    Max,
     Reserved,
     Name,
     Whole,
+    Number,
     Semicolon,
     Comma,
     Equals,
@@ -17,6 +23,9 @@ pub enum Terminal {
     Plus,
     Minus,
     Star,
+    Slash,
+    Caret,
+    Other,
 }
 
 /// A sign, or the operator of a sum.
@@ -24,4 +33,19 @@ pub enum Terminal {
 pub enum Sign {
     Plus,
     Minus,
+}
+
+/// The operator of a product.
+#[derive(Clone, Copy, Debug, PartialEq, Eq)]
+pub enum Scale {
+    Times,
+    Over,
+}
+
+/// What a declaration declares.
+#[derive(Clone, Copy, Debug, PartialEq, Eq)]
+pub enum NameKind {
+    Endogenous,
+    Exogenous,
+    Parameter,
 }

@@ -1,1 +1,4 @@
-mod Joined
+pub mod Bound
+pub mod Digits
+pub mod Entries
+pub mod Sums

@@ -1,1 +1,4 @@
-pub mod Fits
+pub mod Faults
+pub mod Gives
+pub mod Joined
+pub mod Parts

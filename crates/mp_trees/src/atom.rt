@@ -1,67 +1,124 @@
-// The tree of a number or of a variable.
-ghost use Rattle.std.specs.Prelude.{◌≡◌, ◌<◌, ◌≤◌, ◌^◌, ◌+◌, length, option_map};
+// The tree of a number or of a name.
+ghost use Rattle.std.specs.Prelude.{◌≡◌, ◌≤ℤ◌, pos, unsigned_abs, option_map};
 ghost use Rattle.mp_syntax.specs.Literals.{number_of};
-ghost use Rattle.mp_file.specs.Shown.{atom_of, shift_of};
+ghost use Rattle.mp_file.specs.Shown.{shift_of, named_of};
 ghost use Rattle.mp_expr.specs.Shown.{term_of};
-ghost use Rattle.mp_model.specs.ModelOf.{place_of, shift_of as periods_of, term_of as meaning_of};
-ghost use Rattle.mp_trees.specs.Fits.{Fits, IsNear};
+ghost use Rattle.mp_values.specs.Names.{along, named_term};
+ghost use Rattle.mp_values.specs.Folded.{shift_given};
+ghost use Rattle.mp_trees.specs.Gives.{Gives, IsFarLiteral, same, up_to_limit};
+ghost use Rattle.mp_trees.specs.Parts.{number_given, name_given};
 
-use mp_decl::Names;
+use crate::fault::{ModelFault, whole};
+use mp_base::DataKind;
 use mp_expr::{Tree, VarId};
-use mp_file::{Atom, Shift};
+use mp_file::{Named, Shift};
+use mp_literal::decimal;
+use mp_names::{NameId, Names};
 use mp_syntax::Sign;
 
-// The tree of an atom, where these are the declared names.
-pub(crate) fn atom_tree<'t>(atom: &Atom<'t>, names: &Names<'t>) -> Tree
-    requires few { length names.now < 2 ^ 32 }
-    requires fits { Fits names.now (atom_of atom.now) }
-    ensures { term_of result ≡ meaning_of names.now (atom_of atom.now) }
+// The greatest number that a fault can name.
+const LIMIT: u128 = 10000000000000000000000000000000000000;
+
+// The most periods that a variable may be shifted.
+const FARTHEST: u128 = 24;
+
+// The number that a literal at this place writes.
+pub(crate) fn number_tree<'t>(literal: &[u8], at: u32) -> Result<Tree, ModelFault<'t>>
+    ensures { Gives term_of result (number_given literal.now at) }
 {
-    match atom {
-        Atom::Number { digits, .. } => Tree::Num {
-            m: number(digits),
-            s: 0,
-        },
-        Atom::Variable { name, shift } => Tree::Var {
-            v: VarId::Endo(number_from_1(name.name, names)),
-            shift: periods(*shift),
-        },
+    match decimal(literal) {
+        Some(number) => Ok(Tree::Num {
+            m: number.m,
+            s: number.s,
+        }),
+        None => Err(far_literal(at)),
     }
 }
 
-// The number of a declared name, from 1.
-fn number_from_1<'t>(name: &'t [u8], names: &Names<'t>) -> u32
-    requires few { length names.now < 2 ^ 32 }
-    requires declared { place_of names.now name.now < length names.now }
-    ensures { result ≡ place_of names.now name.now + 1 }
+// A number at this place is out of range.
+fn far_literal<'t>(at: u32) -> ModelFault<'t>
+    ensures { IsFarLiteral at result }
 {
-    let place = names.place(name).unwrap();
-    place as u32 + 1
+    ModelFault::Refused {
+        kind: DataKind::Literal,
+        at,
+        first: whole(0),
+        second: whole(37),
+    }
 }
 
-// The number that these digits write.
-fn number(digits: &[u8]) -> u128
-    requires { number_of digits.now ≤ 10 ^ 37 }
-    ensures { result ≡ number_of digits.now }
+// The variable of a name, shifted, or its parameter.
+pub(crate) fn name_tree<'t>(
+    name: Named<'t>,
+    shift: Option<Shift<'t>>,
+    names: &Names<'t>,
+) -> Result<Tree, ModelFault<'t>>
+    ensures { Gives term_of result (name_given names.now (named_of name.entry) (option_map shift_of shift.entry)) }
+{
+    let shift = periods(name.at, shift)?;
+    match found_tree(name.name, shift, names) {
+        Some(tree) => Ok(tree),
+        None => Err(ModelFault::Unvalued { name: name.name }),
+    }
+}
+
+// The variable of a name, shifted, or its parameter, if the name is declared.
+fn found_tree(name: &[u8], shift: i16, names: &Names) -> Option<Tree>
+    ensures { option_map term_of result ≡ named_term names.now name.now shift }
+{
+    let id = names.find(name)?;
+    Some(match id {
+        NameId::Endo(n) => Tree::Var {
+            v: VarId::Endo(n),
+            shift,
+        },
+        NameId::Exo(n) => Tree::Var {
+            v: VarId::Exo(n),
+            shift,
+        },
+        NameId::Param(n) => Tree::Param(n),
+    })
+}
+
+// How many periods ahead the name at this place is shifted; less than 0 is back.
+fn periods<'t>(at: u32, shift: Option<Shift<'t>>) -> Result<i16, ModelFault<'t>>
+    ensures { Gives same result (shift_given at (option_map shift_of shift.entry)) }
+{
+    let Some(shift) = shift else {
+        return Ok(0);
+    };
+    match number(shift.digits) {
+        None => Err(far_literal(at)),
+        Some(count) if count > FARTHEST => Err(ModelFault::Refused {
+            kind: DataKind::ShiftFar,
+            at,
+            first: whole(count),
+            second: whole(FARTHEST),
+        }),
+        Some(count) => Ok(along(shift.sign, count as i16)),
+    }
+}
+
+fn along(sign: Sign, count: i16) -> i16
+    requires { pos 0 ≤ℤ count }
+    ensures { result ≡ along sign (unsigned_abs count) }
+{
+    match sign {
+        Sign::Plus => count,
+        Sign::Minus => -count,
+    }
+}
+
+// The number that these digits write, if a fault can name it.
+fn number(digits: &[u8]) -> Option<u128>
+    ensures { result ≡ up_to_limit (number_of digits.now) }
 {
     let mut value: u128 = 0;
     for digit in digits {
         value = 10 * value + digit.saturating_sub(b'0') as u128;
+        if value > LIMIT {
+            return None;
+        }
     }
-    value
-}
-
-// How many periods ahead; less than 0 is back.
-fn periods(shift: Option<Shift>) -> i16
-    requires { IsNear (option_map shift_of shift) }
-    ensures { result ≡ periods_of (option_map shift_of shift.entry) }
-{
-    let Some(s) = shift else {
-        return 0;
-    };
-    let count = number(s.digits) as i16;
-    match s.sign {
-        Sign::Plus => count,
-        Sign::Minus => -count,
-    }
+    Some(value)
 }

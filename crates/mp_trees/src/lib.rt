@@ -1,12 +1,15 @@
-//! The trees of a file's equations.
+//! The model of a file, its expressions as trees.
 #![tactic(auto)]
 
 pub mod atom;
 pub mod equation;
+pub mod fault;
+pub mod file;
 pub mod sum;
 
-pub use equation::{Sides, sides_of};
-pub use sum::tree_of;
+pub use equation::sides_of;
+pub use fault::ModelFault;
+pub use file::model;
 
 #[cfg(test)]
 mod tests;

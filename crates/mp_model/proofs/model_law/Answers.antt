@@ -1,4 +1,4 @@
-use Rattle.mp_model.proofs.Same.{same_model}
+use Rattle.mp_model.proofs.Places.{same_model}
 use Rattle.mp_model.proofs.model_law.Goals as goal
 
 pub returns : goal.returns

@@ -1,9 +1,8 @@
 use Rattle.std.proofs.Common.{◌≡◌, map, drop}
-use Rattle.std.specs.List.{flat_map}
-use Rattle.mp_declared.specs.Declared.{Declares}
+use Rattle.mp_declared.specs.Points.{Declared}
 use Rattle.mp_file.specs.Shown.{named_of}
 use Rattle.mp_decl.specs.Walk.{walk}
 use Rattle.mp_decl.proofs.walk.declare_names.Given as goal
 
 abbrev pub invariant-turns : goal.invariant-turns
-invariant-turns l = walk l.known (map Declares (map named_of (drop l.name-index l.names))) ≡ walk l.initial.known (map Declares (map named_of l.names))
+invariant-turns l = walk l.known (map (Declared l.kind) (map named_of (drop l.name-index l.names))) ≡ walk l.initial.known (map (Declared l.kind) (map named_of l.names))

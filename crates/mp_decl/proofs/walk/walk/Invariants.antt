@@ -1,6 +1,6 @@
 use Rattle.std.proofs.Common.{◌≡◌, map, drop}
 use Rattle.std.specs.List.{flat_map}
-use Rattle.mp_declared.specs.Declared.{points_in}
+use Rattle.mp_declared.specs.Points.{points_in}
 use Rattle.mp_file.specs.Shown.{statement_of}
 use Rattle.mp_decl.specs.Walk.{walk}
 use Rattle.mp_decl.proofs.walk.walk.Given as goal

@@ -1,7 +1,7 @@
 use Rattle.std.proofs.Common.{◌≡◌, ◌++◌, map, drop}
 use Rattle.std.specs.List.{flat_map}
 use Rattle.mp_file.specs.Shown.{item_of}
-use Rattle.mp_syntax.specs.Spelling.{spelled_item}
+use Rattle.mp_spelling.specs.Spelled.{spelled_item}
 use Rattle.mp_print.proofs.file.put_each_item.Given as goal
 
 abbrev pub invariant-turns : goal.invariant-turns

@@ -3,4 +3,4 @@ use Rattle.mp_run.proofs.top.run.Goals as goal
 
 pub returns-clause-headline : goal.returns-clause-headline
 returns-clause-headline g c =
-    same_solutions c.headline_law.ensures _ _ (g.O.Sink.held c.args.out.now) (g.O.Sink.held c.written-outcome.new.out) c.written-outcome.result c.written-outcome.ensures.canonical
+    same_solutions _ _ (g.O.Sink.held c.args.out.now) (g.O.Sink.held c.written-outcome.new.out) c.written-outcome.result c.written-outcome.ensures.result

@@ -1,9 +1,8 @@
-use Rattle.std.proofs.Common.{drop, arith}
-use Rattle.mp_decl.proofs.Digits.{le-with_digits}
+use Rattle.std.proofs.Common.{◌^◌, Some, None, cond, sym, ap, arith}
+use Rattle.mp_syntax.specs.Literals.{number_of}
+use Rattle.mp_trees.proofs.Digits.{beyond_at}
 use Rattle.mp_trees.proofs.atom.number.Goals as goal
 
-pub overflow_mul-value : goal.overflow_mul-value
-overflow_mul-value c = omega (arith, c.requires, c.loop-digit.invariant, le-with_digits c.loop-digit.value (drop c.loop-digit.digit-index c.args.digits.now))
-
-pub overflow_add-value : goal.overflow_add-value
-overflow_add-value c = omega (arith, c.requires, c.loop-digit.invariant, c.saturating_sub.ensures, le-with_digits c.loop-digit.value (drop c.loop-digit.digit-index c.args.digits.now))
+pub returns-then-value-gt-LIMIT : goal.returns-then-value-gt-LIMIT
+returns-then-value-gt-LIMIT c =
+    sym (ap (λ b. cond b (Some (number_of c.args.digits.now)) None) (beyond_at c.loop-digit.value (10 ^ 37) c.loop-digit.digit-index _ c.args.digits.now c.loop-digit-test.true c.loop-digit.invariant.whole (omega (arith, c.saturating_sub.ensures))))

@@ -1,0 +1,47 @@
+-- A loop that seeks a point, turn by turn.
+use Rattle.std.proofs.Common.{◌≡◌, ℕ, ◌+◌, ◌<◌, ◌≤◌, List, [], ◌∷◌, ◌++◌, length, drop, get_or, Bool, true, false, cond, option_map, Option, Some, None, refl, sym, ap, ◌∙◌}
+use Rattle.std.specs.Prelude.{find}
+use Rattle.std.specs.Option.{option_or}
+use Rattle.std.proofs.Math.ListN.{drop_of_length-le}
+use Rattle.std.proofs.lemmas.List.{drop_more}
+use Rattle.mp_declared.specs.Points.{Point}
+use Rattle.mp_declared.specs.Shifts.{reach_of, is_far, first_far}
+use Rattle.std.proofs.lemmas.List.Folds.{find-append}
+
+-- among two lists, the first has none
+pub find-after : {X : Type 0} (test : X → Bool) (xs ys : List X) → find test xs ≡ None → find test (xs ++ ys) ≡ find test ys
+find-after test xs ys none = find-append test xs ys ∙ ap (λ r. option_or r (find test ys)) none
+
+-- or it has one
+pub find-before : {X : Type 0} (test : X → Bool) (xs ys : List X) (p : X) → Some p ≡ find test xs → Some p ≡ find test (xs ++ ys)
+find-before test xs ys p some = ap (λ r. option_or r (find test ys)) some ∙ sym (find-append test xs ys)
+
+module _ {X S : Type 0} (points : S → List X) (all : List S → List X) (more : (x : S) (xs : List S) → all (x ∷ xs) ≡ points x ++ all xs)
+    (test : X → Bool) (xs : List S) (i : ℕ) (x d : S) (whole : Option X) (within : i < length xs) (is : x ≡ get_or xs i d) (so_far : find test (all (drop i xs)) ≡ whole) where
+  here : all (drop i xs) ≡ points x ++ all (drop (i + 1) xs)
+  here = ap all (drop_more xs i d within ∙ ap (λ y. y ∷ drop (i + 1) xs) (sym is)) ∙ more x (drop (i + 1) xs)
+
+  pub turn_none : None ≡ find test (points x) → find test (all (drop (i + 1) xs)) ≡ whole
+  turn_none none = sym (find-after test (points x) (all (drop (i + 1) xs)) (sym none)) ∙ ap (find test) (sym here) ∙ so_far
+
+  pub turn_some : (p : X) → Some p ≡ find test (points x) → Some p ≡ whole
+  turn_some p some = find-before test (points x) (all (drop (i + 1) xs)) p some ∙ ap (find test) (sym here) ∙ so_far
+
+pub turns_end : {X S : Type 0} (all : List S → List X) (test : X → Bool) (xs : List S) (i : ℕ) (whole : Option X) → all [] ≡ [] → length xs ≤ i → find test (all (drop i xs)) ≡ whole → None ≡ whole
+turns_end all test xs i whole none past so_far = sym (ap (λ l. find test (all l)) (drop_of_length-le xs past) ∙ ap (find test) none) ∙ so_far
+
+-- what is found among all, where these are two lists
+pub found_first : {X : Type 0} (test : X → Bool) (all xs ys : List X) (p : X) → all ≡ xs ++ ys → Some p ≡ find test xs → Some p ≡ find test all
+found_first test all xs ys p two some = find-before test xs ys p some ∙ ap (find test) (sym two)
+
+pub found_second : {X : Type 0} (test : X → Bool) (all xs ys : List X) (r : Option X) → all ≡ xs ++ ys → None ≡ find test xs → r ≡ find test ys → r ≡ find test all
+found_second test all xs ys r two none found = found ∙ sym (find-after test xs ys (sym none)) ∙ ap (find test) (sym two)
+
+-- the first far name is the first one that is far
+pub first_far-find : (ps : List Point) → first_far ps ≡ option_map reach_of (find (λ p. is_far (reach_of p)) ps)
+first_far-find [] = refl
+first_far-find (p ∷ ps) = by (is_far (reach_of p)) (first_far-find ps)
+  where
+    by : (b : Bool) → first_far ps ≡ option_map reach_of (find (λ q. is_far (reach_of q)) ps) → cond b (Some (reach_of p)) (first_far ps) ≡ option_map reach_of (cond b (Some p) (find (λ q. is_far (reach_of q)) ps))
+    by true further = refl
+    by false further = further

@@ -1,0 +1,3 @@
+pub mod AtomLaws
+pub mod ListLaws
+pub mod Tens

@@ -1,0 +1,4 @@
+pub mod Assigned
+pub mod Lists
+pub mod Near
+pub mod Shown

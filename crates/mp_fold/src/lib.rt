@@ -1,0 +1,18 @@
+//! The values of expressions of numbers and parameters, with the limits of numbers: each operation on fractions answers
+//! or refuses. No memory is taken.
+#![tactic(auto)]
+
+pub mod assign;
+pub mod fault;
+pub mod number;
+pub mod operations;
+pub mod powers;
+pub mod sums;
+
+pub use assign::assign_values;
+pub use fault::FoldFault;
+pub use powers::{exponent_value, exponents};
+pub use sums::{atom_value, value_of};
+
+#[cfg(test)]
+mod tests;

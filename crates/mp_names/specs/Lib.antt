@@ -1,0 +1,4 @@
+pub mod Coded
+pub mod Entry
+pub mod Named
+pub mod Numbers

@@ -1,0 +1,13 @@
+//! The names of a file by their kind, and the values of its parameters, each found by hash.
+#![tactic(auto)]
+
+pub mod list;
+pub mod names;
+pub mod table;
+
+pub use list::NameList;
+pub use names::{NameId, Names};
+pub use table::{Entry, Table};
+
+#[cfg(test)]
+mod tests;

@@ -1,0 +1,4 @@
+pub mod Inverse
+pub mod Places
+pub mod Ratios
+pub mod Values

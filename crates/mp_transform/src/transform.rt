@@ -1,0 +1,222 @@
+// From a text to the canonical text of its model: each step gives what the next one needs, or the outcome that ends the
+// run.
+ghost use Rattle.std.specs.Prelude.{◌≡◌, ◌<◌, ◌-◌, ◌^◌, length, Ok, IfOk, MatchResult};
+ghost use Rattle.mp_file.specs.Shown.{file_of};
+ghost use Rattle.mp_declared.specs.Heights.{greatest_height};
+ghost use Rattle.mp_declared.specs.Shifts.{far_shift};
+ghost use Rattle.mp_values.specs.Names.{names_of};
+ghost use Rattle.mp_values.specs.Folded.{values_given, model_given};
+ghost use Rattle.mp_model_data.specs.Shown.{model_data};
+ghost use Rattle.mp_spelling.specs.Printed.{printed_model};
+ghost use Rattle.mp_frac.specs.Value.{value_of};
+ghost use Rattle.mp_decl.specs.Given.{ratio_told, declared_given};
+ghost use Rattle.mp_tell.specs.Lines.{HasReduced};
+ghost use Rattle.mp_transform.specs.Steps.{Says, TextShows};
+ghost use Rattle.mp_transform.specs.Text.{shift_step, deep_step, model_step, limited, tested, text_gives};
+ghost use Rattle.mp_transform.specs.Canonical.{IsCanonical};
+
+use crate::reading::{lexed, parsed};
+use mp_base::{Bytes, DataKind, DeclKind, Label, Outcome, Ratio};
+use mp_decl::{DeclFault, Declared};
+use mp_file::File;
+use mp_frac::Frac;
+use mp_lex::Tokens;
+use mp_model_data::Model;
+use mp_trees::ModelFault;
+use std::alloc::Global;
+
+// How far a shift is told.
+const LIMIT: u128 = 10_000_000_000_000_000_000_000_000_000_000_000_000;
+
+/// The canonical text of the model that a text means: its names, the values of its parameters and its equations, with
+/// exponents folded and the fewest parentheses; or the first refusal: of tokens, grammar, declarations, values, shifts
+/// and heights, in this order (Dynare manual, "The model file"; the canonical text is modpath's own).
+pub fn transformed(alloc: Global, text: &[u8]) -> Result<Bytes, Outcome>
+    requires { length text.now < 2 ^ 32 - 1 }
+    ensures says { Says (λ bytes. bytes) (text_gives text.now) result }
+    // A path solves what is written exactly when it solves what was read.
+    ensures canonical { IfOk result (λ bytes. IsCanonical text.now bytes) }
+    ensures shows { MatchResult result (λ _. Unit {0}) TextShows }
+    ensures reduced { MatchResult result (λ _. Unit {0}) HasReduced }
+{
+    mp_reading::grammar_law();
+    mp_values::limits_law();
+    mp_model::headline_law();
+    let bytes = printed_text(alloc, text)?;
+    Ok(bytes)
+}
+
+// The canonical text.
+fn printed_text(alloc: Global, text: &[u8]) -> Result<Bytes, Outcome>
+    requires { length text.now < 2 ^ 32 - 1 }
+    ensures says { Says (λ bytes. bytes) (text_gives text.now) result }
+    ensures shows { MatchResult result (λ _. Unit {0}) TextShows }
+    ensures reduced { MatchResult result (λ _. Unit {0}) HasReduced }
+{
+    let tokens = lexed(alloc, text)?;
+    let end = text.len() as u32;
+    let file = parsed(alloc, &tokens, end)?;
+    let model = tested(alloc, &tokens, &file, end)?;
+    printed(alloc, &model)
+}
+
+// The model of a file that declares it, with no number, no shift and no side past the limits. The text ends at `end`.
+fn tested<'t>(
+    alloc: Global,
+    tokens: &Tokens<'t>,
+    file: &File<'t>,
+    end: u32,
+) -> Result<Model<'t>, Outcome>
+    ensures says { Says model_data (tested end tokens.now (file_of file.now)) result }
+    ensures shows { MatchResult result (λ _. Unit {0}) TextShows }
+    ensures reduced { MatchResult result (λ _. Unit {0}) HasReduced }
+{
+    let declared = declared(alloc, tokens, file, end)?;
+    limited(alloc, file, &declared, end)
+}
+
+// The model of a file that declares these names and values, with no shift and no side past the limits. The text ends at
+// `end`.
+fn limited<'t>(
+    alloc: Global,
+    file: &File<'t>,
+    declared: &Declared<'t>,
+    end: u32,
+) -> Result<Model<'t>, Outcome>
+    requires names { declared.now.names ≡ names_of (file_of file.now) }
+    requires values { values_given (file_of file.now) ≡ Ok declared.now.values }
+    ensures says { Says model_data (limited end (file_of file.now)) result }
+    ensures shows { MatchResult result (λ _. Unit {0}) TextShows }
+    ensures reduced { MatchResult result (λ _. Unit {0}) HasReduced }
+{
+    not_far(file)?;
+    not_deep(file)?;
+    model(alloc, file, declared, end)
+}
+
+// What the file declares. The text ends at `end`.
+fn declared<'t>(
+    alloc: Global,
+    tokens: &Tokens<'t>,
+    file: &File<'t>,
+    end: u32,
+) -> Result<Declared<'t>, Outcome>
+    ensures says { Says (λ d. d.values) (declared_given end tokens.now (file_of file.now)) result }
+    ensures names { IfOk result (λ d. d.names ≡ names_of (file_of file.now)) }
+    ensures values { IfOk result (λ d. values_given (file_of file.now) ≡ Ok d.values) }
+    ensures shows { MatchResult result (λ _. Unit {0}) TextShows }
+    ensures reduced { MatchResult result (λ _. Unit {0}) HasReduced }
+{
+    match mp_decl::declare(alloc, tokens, file, end) {
+        Ok(declared) => Ok(declared),
+        Err(DeclFault::Declared { kind, name, at }) => Err(Outcome::Declared { kind, name, at }),
+        Err(DeclFault::Data {
+            kind,
+            at,
+            first,
+            second,
+        }) => Err(Outcome::Data {
+            kind,
+            at,
+            first,
+            second,
+        }),
+        Err(DeclFault::NoMemory) => Err(Outcome::NoMemory),
+    }
+}
+
+// No variable is shifted by more than 24 periods.
+fn not_far(file: &File) -> Result<(), Outcome>
+    ensures says { Says (λ u. u) (shift_step (far_shift (file_of file.now))) result }
+    ensures shows { MatchResult result (λ _. Unit {0}) TextShows }
+    ensures reduced { MatchResult result (λ _. Unit {0}) HasReduced }
+{
+    match mp_decl::far_shift(file) {
+        None => Ok(()),
+        Some(far) => Err(Outcome::Data {
+            kind: DataKind::ShiftFar,
+            at: far.at,
+            first: Ratio {
+                n: far.periods.min(LIMIT) as i128,
+                d: 1,
+            },
+            second: Ratio { n: 24, d: 1 },
+        }),
+    }
+}
+
+// No side of an equation is higher than 500.
+fn not_deep(file: &File) -> Result<(), Outcome>
+    ensures says { Says (λ u. u) (deep_step (greatest_height (file_of file.now))) result }
+    ensures shows { MatchResult result (λ _. Unit {0}) TextShows }
+    ensures reduced { MatchResult result (λ _. Unit {0}) HasReduced }
+{
+    let tall = mp_decl::greatest_height(file);
+    if tall <= 500 {
+        return Ok(());
+    }
+    Err(Outcome::Data {
+        kind: DataKind::TooDeep,
+        at: 0,
+        first: Ratio {
+            n: tall as i128,
+            d: 1,
+        },
+        second: Ratio { n: 500, d: 1 },
+    })
+}
+
+// The model of a file that declares these names and values. The text ends at `end`.
+fn model<'t>(
+    alloc: Global,
+    file: &File<'t>,
+    declared: &Declared<'t>,
+    end: u32,
+) -> Result<Model<'t>, Outcome>
+    requires names { declared.now.names ≡ names_of (file_of file.now) }
+    requires values { values_given (file_of file.now) ≡ Ok declared.now.values }
+    ensures says { Says model_data (model_step end (model_given (file_of file.now))) result }
+    ensures shows { MatchResult result (λ _. Unit {0}) TextShows }
+    ensures reduced { MatchResult result (λ _. Unit {0}) HasReduced }
+{
+    match mp_trees::model(alloc, file, &declared.names, &declared.values) {
+        Ok(model) => Ok(model),
+        Err(ModelFault::Unvalued { name }) => Err(Outcome::Declared {
+            kind: DeclKind::NoValue,
+            name: Label::of(name),
+            at: end,
+        }),
+        Err(ModelFault::Refused {
+            kind,
+            at,
+            first,
+            second,
+        }) => Err(refused(kind, at, first, second)),
+        Err(ModelFault::NoMemory) => Err(Outcome::NoMemory),
+    }
+}
+
+// A number is refused at this place, with two that say why.
+fn refused(kind: DataKind, at: u32, first: Frac, second: Frac) -> Outcome
+    ensures says { result ≡ Outcome.Data kind at (ratio_told (value_of first)) (ratio_told (value_of second)) }
+    ensures reduced { HasReduced result }
+{
+    Outcome::Data {
+        kind,
+        at,
+        first: first.parts(),
+        second: second.parts(),
+    }
+}
+
+// The canonical text of the model.
+fn printed(alloc: Global, model: &Model) -> Result<Bytes, Outcome>
+    ensures says { Says (λ bytes. bytes) (Ok (printed_model (model_data model.now))) result }
+    ensures shows { MatchResult result (λ _. Unit {0}) TextShows }
+    ensures reduced { MatchResult result (λ _. Unit {0}) HasReduced }
+{
+    match mp_print_model::print_model(alloc, model) {
+        Ok(bytes) => Ok(bytes),
+        Err(_) => Err(Outcome::NoMemory),
+    }
+}

@@ -1,0 +1,76 @@
+-- Going on with what there is.
+use Rattle.std.proofs.Common.{◌≡◌, List, [], ◌∷◌, ◌++◌, append-nil, append_assoc, Ok, Err, refl, sym, ap, ◌∙◌}
+use Rattle.mp_frac.specs.Value.{value_of}
+use Rattle.mp_values.specs.Folded.{Folded, Stuck, Unvalued, Refused, each_given, ◌>>=◌}
+use Rattle.mp_trees.specs.declared.fault.ModelFault.{ModelFault}
+use Rattle.mp_trees.specs.declared.fault.ModelFault.TheVariants as fault
+use Rattle.mp_fold.specs.declared.fault.FoldFault.{FoldFault}
+use Rattle.mp_fold.specs.declared.fault.FoldFault.TheVariants as f
+use Rattle.mp_fold.specs.Shown.{stuck_of}
+use Rattle.mp_trees.specs.Faults.{fault_of}
+use Rattle.mp_trees.specs.Gives.{Fails}
+use Rattle.mp_trees.specs.Parts.{after_these}
+
+pub bind-Ok : {A : Type 0} (r : Folded A) → (r >>= λ x. Ok x) ≡ r
+bind-Ok (Ok x) = refl
+bind-Ok (Err e) = refl
+
+pub bind-bind : {A B C : Type 0} (r : Folded A) (f : A → Folded B) (g : B → Folded C) → (r >>= f >>= g) ≡ (r >>= λ x. f x >>= g)
+bind-bind (Ok x) f g = refl
+bind-bind (Err e) f g = refl
+
+pub bind_same : {A B : Type 0} (r : Folded A) (f g : A → Folded B) → ((x : A) → f x ≡ g x) → (r >>= f) ≡ (r >>= g)
+bind_same (Ok x) f g h = h x
+bind_same (Err e) f g h = refl
+
+-- a part that fails makes the whole fail, for the same reason
+pub Fails-whole : {A B : Type 0} (e : ModelFault) (part : Folded A) (whole : Folded B) → ((s : Stuck) → part ≡ Err s → whole ≡ Err s) → Fails e part → Fails e whole
+Fails-whole (fault.Unvalued name) part whole h fails = h (Unvalued name.now) fails
+Fails-whole (fault.Refused kind at first second) part whole h fails = h (Refused kind at (value_of first) (value_of second)) fails
+Fails-whole fault.NoMemory part whole h fails = tt
+
+-- a value that is missing
+pub Fails-fault : {A : Type 0} (f : FoldFault) (given : Folded A) → given ≡ Err (stuck_of f) → Fails (fault_of f) given
+Fails-fault (f.Unvalued name) given is = is
+Fails-fault (f.Refused kind at first second) given is = is
+
+pub Fails-bind : {A B : Type 0} (e : ModelFault) (part : Folded A) (next : A → Folded B) → Fails e part → Fails e (part >>= next)
+Fails-bind e part next fails = Fails-whole e part (part >>= next) (λ s is. ap (λ r. r >>= next) is) fails
+
+pub Fails_same : {A : Type 0} (e : ModelFault) (r s : Folded A) → r ≡ s → Fails e r → Fails e s
+Fails_same e r s is fails = Fails-whole e r s (λ x h. sym is ∙ h) fails
+
+-- what goes through each of these, and what then goes through the rest
+module _ {A B : Type 0} (f : A → Folded B) where
+  one_first : (front : List B) (y : B) (r : Folded (List B)) → after_these front (r >>= λ zs. Ok (y ∷ zs)) ≡ after_these (front ++ y ∷ []) r
+  one_first front y (Ok zs) = ap (λ l. Ok l) (sym (append_assoc front (y ∷ []) zs))
+  one_first front y (Err e) = refl
+
+  both : (front : List B) (xs ys : List A) (r : Folded B) → ((y : B) → after_these (front ++ y ∷ []) (each_given f (xs ++ ys)) ≡ (after_these (front ++ y ∷ []) (each_given f xs) >>= λ new. after_these new (each_given f ys))) → after_these front (r >>= λ y. each_given f (xs ++ ys) >>= λ zs. Ok (y ∷ zs)) ≡ (after_these front (r >>= λ y. each_given f xs >>= λ zs. Ok (y ∷ zs)) >>= λ new. after_these new (each_given f ys))
+  both front xs ys (Ok y) rest =
+      one_first front y (each_given f (xs ++ ys)) ∙ rest y ∙ ap (λ r. r >>= λ new. after_these new (each_given f ys)) (sym (one_first front y (each_given f xs)))
+  both front xs ys (Err e) rest = refl
+
+  pub each_given-append : (front : List B) (xs ys : List A) → after_these front (each_given f (xs ++ ys)) ≡ (after_these front (each_given f xs) >>= λ new. after_these new (each_given f ys))
+  each_given-append front [] ys = ap (λ l. after_these l (each_given f ys)) (sym (append-nil front))
+  each_given-append front (x ∷ xs) ys = both front xs ys (f x) (λ y. each_given-append (front ++ y ∷ []) xs ys)
+
+  -- one that is given comes after those so far
+  pub next_given : (front new : List B) (x : A) (xs : List A) (y : B) (whole : Folded (List B)) → after_these front (each_given f (x ∷ xs)) ≡ whole → f x ≡ Ok y → new ≡ front ++ y ∷ [] → after_these new (each_given f xs) ≡ whole
+  next_given front new x xs y whole so_far is more =
+      ap (λ l. after_these l (each_given f xs)) more ∙ sym (one_first front y (each_given f xs)) ∙ ap (λ r. after_these front (r >>= λ y. each_given f xs >>= λ zs. Ok (y ∷ zs))) (sym is) ∙ so_far
+
+  -- one that fails makes all fail
+  pub next_fails : (e : ModelFault) (front : List B) (x : A) (xs : List A) (whole : Folded (List B)) → after_these front (each_given f (x ∷ xs)) ≡ whole → Fails e (f x) → Fails e whole
+  next_fails e front x xs whole so_far fails =
+      Fails_same e _ whole so_far (Fails-bind e (each_given f (x ∷ xs)) (λ more. Ok (front ++ more)) (Fails-bind e (f x) (λ y. each_given f xs >>= λ ys. Ok (y ∷ ys)) fails))
+
+  -- some that are given come after those so far
+  pub some_given : (front new : List B) (xs ys : List A) (whole : Folded (List B)) → after_these front (each_given f (xs ++ ys)) ≡ whole → after_these front (each_given f xs) ≡ Ok new → after_these new (each_given f ys) ≡ whole
+  some_given front new xs ys whole so_far is =
+      sym (ap (λ r. r >>= λ n. after_these n (each_given f ys)) is) ∙ sym (each_given-append front xs ys) ∙ so_far
+
+  -- one of these that fails makes all fail
+  pub some_fail : (e : ModelFault) (front : List B) (xs ys : List A) (whole : Folded (List B)) → after_these front (each_given f (xs ++ ys)) ≡ whole → Fails e (after_these front (each_given f xs)) → Fails e whole
+  some_fail e front xs ys whole so_far fails =
+      Fails_same e _ whole (sym (each_given-append front xs ys) ∙ so_far) (Fails-bind e (after_these front (each_given f xs)) (λ n. after_these n (each_given f ys)) fails)

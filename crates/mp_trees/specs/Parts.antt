@@ -1,0 +1,35 @@
+-- Parts of the model of a file.
+use Rattle.std.specs.Prelude.{ℕ, ℤ, List, ◌++◌, Option, Ok}
+use Rattle.mp_syntax.specs.declared.terminal.Sign.{Sign}
+use Rattle.mp_syntax.specs.Syntax.{Shift, Named, Expr, Statement}
+use Rattle.mp_rational.specs.Fraction.{Fraction}
+use Rattle.mp_semantics.specs.Term.{Term}
+use Rattle.mp_semantics.specs.Model as m
+use Rattle.mp_values.specs.Names.{Names, names_of, named_term}
+use Rattle.mp_values.specs.Table.{Table}
+use Rattle.mp_values.specs.ModelOf.{number_by, parameter_of, model_with}
+use Rattle.mp_values.specs.Folded.{Folded, ◌>>=◌, known, literal_given, shift_given, folded, exponent_at, parameters_given, equations_given}
+
+-- the number of a literal at this place
+abbrev pub number_given : List ℕ → ℕ → Folded Term
+number_given literal at = literal_given literal at >>= λ n. Ok (number_by n)
+
+-- the variable or the parameter of a name
+abbrev pub name_given : Names → Named → Option Shift → Folded Term
+name_given ns name shift = shift_given name.at shift >>= λ k. known name.name (named_term ns name.name k)
+
+-- the exponent of a "^" at this place, with the sign before it
+abbrev pub exponent_given : Table → ℕ → Option Sign → Expr → Folded ℤ
+exponent_given t at s e = folded t e >>= λ y. exponent_at at s y
+
+-- a parameter with its value, which it has to have
+abbrev pub parameter_given : List ℕ × Option Fraction → Folded m.Parameter
+parameter_given p = known p.0 (parameter_of p)
+
+-- these in front of what is given
+abbrev pub after_these : {A : Type 0} → List A → Folded (List A) → Folded (List A)
+after_these front r = r >>= λ more. Ok (front ++ more)
+
+-- the model of a file, where its parameters have these values
+abbrev pub model_at : List Statement → Table → Folded m.Model
+model_at file t = parameters_given t >>= λ ps. equations_given file t >>= λ es. Ok (model_with (names_of file) ps es)

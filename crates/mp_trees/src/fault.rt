@@ -1,0 +1,72 @@
+// Why a file has no model.
+ghost use Rattle.std.specs.Prelude.{◌≡◌, ◌≤◌, pos};
+ghost use Rattle.mp_rational.specs.Fraction.{whole};
+ghost use Rattle.mp_frac.specs.Limit.{limit};
+ghost use Rattle.mp_frac.specs.Value.{value_of};
+
+use mp_base::{DataKind, NoMemory};
+use mp_fold::FoldFault;
+use mp_frac::Frac;
+use thiserror::Error;
+
+/// Why a file has no model: a name has no value; or a number is refused, with its place and two numbers that say why; or
+/// there was no memory.
+#[derive(Debug, Drop, Error)]
+pub enum ModelFault<'t> {
+    #[error("a name has no value")]
+    Unvalued {
+        name: &'t [u8],
+    },
+    #[error("the number at byte {at} is refused")]
+    Refused {
+        kind: DataKind,
+        at: u32,
+        first: Frac,
+        second: Frac,
+    },
+    #[error("there was no memory")]
+    NoMemory,
+}
+
+impl<'t> From<NoMemory> for ModelFault<'t> {
+    ghost use Rattle.std.specs.Prelude.{◌≡◌};
+    ghost use Rattle.mp_trees.specs.declared.fault.ModelFault.TheVariants.{NoMemory};
+
+    ghost from_gives = { λ _ e. e ≡ NoMemory };
+
+    fn from(_: NoMemory) -> Self {
+        ModelFault::NoMemory
+    }
+}
+
+impl<'t> From<FoldFault<'t>> for ModelFault<'t> {
+    ghost use Rattle.std.specs.Prelude.{◌≡◌};
+    ghost use Rattle.mp_trees.specs.Faults.{fault_of};
+
+    ghost from_gives = { λ f e. e ≡ fault_of f };
+
+    fn from(fault: FoldFault<'t>) -> Self {
+        match fault {
+            FoldFault::Unvalued { name } => ModelFault::Unvalued { name },
+            FoldFault::Refused {
+                kind,
+                at,
+                first,
+                second,
+            } => ModelFault::Refused {
+                kind,
+                at,
+                first,
+                second,
+            },
+        }
+    }
+}
+
+// A whole number as a fraction.
+pub(crate) fn whole(n: u128) -> Frac
+    requires { n ≤ limit }
+    ensures { value_of result ≡ whole (pos n) }
+{
+    Frac::ratio(n, 1)
+}

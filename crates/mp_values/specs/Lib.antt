@@ -1,0 +1,5 @@
+pub mod Constant
+pub mod Folded
+pub mod ModelOf
+pub mod Names
+pub mod Table

@@ -1,0 +1,10 @@
+//! The words of the command line.
+#![tactic(auto)]
+
+pub mod define;
+pub mod words;
+
+pub use words::{WordFault, Words, read_words};
+
+#[cfg(test)]
+mod tests;

@@ -1,0 +1,12 @@
+pub mod Digits
+pub mod Literals
+pub mod Numbers
+pub mod Forms
+pub mod Names
+pub mod Options
+pub mod Values
+pub mod Terms
+pub mod Tables
+pub mod Lists
+pub mod Files
+pub mod Source
