@@ -3,4 +3,8 @@ pub mod Trees
 pub mod Stacks
 pub mod Weights
 pub mod Turns
-pub mod Flat
+pub mod Contents
+pub mod Joined
+pub mod OnlyTree
+pub mod Standing
+pub mod FirstFault

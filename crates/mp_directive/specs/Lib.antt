@@ -5,4 +5,4 @@ pub mod Tree
 pub mod Groups
 pub mod Shown
 pub mod Gives
-pub mod Flat
+pub mod Structure

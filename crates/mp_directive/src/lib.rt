@@ -13,6 +13,6 @@ pub use content::{Condition, Statement};
 pub use fault::TreeFault;
 pub use groups::tree_of;
 pub use keyword::Keyword;
-pub use laws::lines_law;
+pub use laws::{fault_law, tree_law};
 pub use scan::{begins_comment, quoted_after};
 pub use tree::{Branch, Head, Node, parts_of};
