@@ -1,6 +1,5 @@
 -- What came before the last step.
-use Rattle.std.proofs.Common.{◌≡◌, ℕ, ◌-◌, ◌^◌, ◌≤◌, List, length, true, false, Bool, Some, Result, Ok, Err, refl, sym, ap, subst, arith, nat_le, if◌then◌else◌}
-use Rattle.std.specs.Prelude.{min}
+use Rattle.std.proofs.Common.{◌≡◌, ℕ, ◌≤◌, List, length, true, false, Bool, Some, Result, Ok, Err, refl, sym, ap, subst, arith, nat_le, if◌then◌else◌}
 use Rattle.mp_base.specs.declared.outcome.Outcome.{Outcome}
 use Rattle.mp_base.specs.declared.outcome.Outcome.TheVariants as o
 use Rattle.mp_base.specs.declared.kinds.DataKind.TheVariants as d
@@ -15,9 +14,9 @@ use Rattle.mp_values.specs.ModelOf.{model_of}
 use Rattle.mp_values.specs.Folded.{Folded, model_given}
 use Rattle.mp_spelling.specs.Printed.{printed_model}
 use Rattle.mp_model.specs.Headline.{KeepsSolutions}
-use Rattle.mp_decl.specs.Given.{declared_given, stuck_told}
+use Rattle.mp_decl.specs.Given.{declared_given}
 use Rattle.mp_transform.specs.Steps.{Step, and_then, whole}
-use Rattle.mp_transform.specs.Text.{token_step, file_step, wrong_token, shift_step, deep_step, model_step, limited, tested, tokens_give, model_of_text, text_gives}
+use Rattle.mp_transform.specs.Text.{token_step, file_step, shift_step, deep_step, model_step, limited, tested, tokens_give, model_of_text, text_gives}
 use Rattle.mp_transform.specs.Canonical.{IsCanonical}
 
 -- a step that gave something came after one that did
@@ -42,7 +41,7 @@ low_by false x e = let k : ⊥ = cc in absurd k
 
 pub low : (tall : ℕ) (u : Unit {0}) → deep_step tall ≡ Ok u → tall ≤ 500
 low tall u e =
-    let b : nat_le tall 500 ≡ true = low_by (nat_le tall 500) (o.Data d.TooDeep 0 (whole (min tall (2 ^ 64 - 1))) (whole 500)) e in
+    let b : nat_le tall 500 ≡ true = low_by (nat_le tall 500) (o.Data d.TooDeep 0 (whole tall) (whole 500)) e in
     grind (arith, b)
 
 pub meant : (end : ℕ) (r : Folded Model) (M : Model) → model_step end r ≡ Ok M → r ≡ Ok M

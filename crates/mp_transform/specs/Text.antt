@@ -1,5 +1,5 @@
 -- What a text is transformed into: the canonical text of its model, or the first refusal in the order of the steps.
-use Rattle.std.specs.Prelude.{ℕ, ◌-◌, ◌^◌, min, List, [], ◌∷◌, length, take, nat_le, if◌then◌else◌, Option, Some, None, Result, Ok, Err}
+use Rattle.std.specs.Prelude.{ℕ, List, [], ◌∷◌, length, take, nat_le, if◌then◌else◌, Option, Some, None, Result, Ok, Err}
 use Rattle.mp_base.specs.declared.outcome.Outcome.{Outcome}
 use Rattle.mp_base.specs.declared.outcome.Outcome.TheVariants as o
 use Rattle.mp_base.specs.declared.kinds.TextKind.TheVariants as t
@@ -33,15 +33,14 @@ abbrev pub file_step : ℕ → Result (List Statement) (List Tok) → Step (List
 file_step end (Ok file) = Ok file
 file_step end (Err left) = Err (wrong_token end left)
 
--- no variable is shifted by more than 24 periods; how far is told up to 10^37, which no number in range passes
+-- no variable is shifted by more than 24 periods
 abbrev pub shift_step : Option (ℕ × ℕ) → Step (Unit {0})
 shift_step None = Ok tt
-shift_step (Some x) = Err (o.Data d.ShiftFar x.0 (whole (min x.1 (10 ^ 37))) (whole 24))
+shift_step (Some x) = Err (o.Data d.ShiftFar x.0 (whole x.1) (whole 24))
 
--- no side of an equation is higher than 500; how high is told up to 2^64 - 1, which no text reaches
+-- no side of an equation is higher than 500
 abbrev pub deep_step : ℕ → Step (Unit {0})
-deep_step tall =
-    if nat_le tall 500 then Ok tt else Err (o.Data d.TooDeep 0 (whole (min tall (2 ^ 64 - 1))) (whole 500))
+deep_step tall = if nat_le tall 500 then Ok tt else Err (o.Data d.TooDeep 0 (whole tall) (whole 500))
 
 -- the model of a file
 abbrev pub model_step : ℕ → Folded Model → Step Model

@@ -1,7 +1,9 @@
 // From a text to the file that its tokens read as.
 ghost use Rattle.std.specs.Prelude.{◌≡◌, ◌<◌, ◌≤◌, ◌-◌, ◌^◌, [], drop, length, take, IfOk, MatchResult};
 ghost use Rattle.mp_syntax.specs.Tokens.{tokens};
+ghost use Rattle.mp_syntax.specs.Grammar.{Reads};
 ghost use Rattle.mp_reading.specs.Reading.{file_read};
+ghost use Rattle.mp_declared.specs.Heights.{greatest_height};
 ghost use Rattle.mp_file.specs.Shown.{file_of};
 ghost use Rattle.mp_lex.specs.Shown.{tok_of};
 ghost use Rattle.mp_tell.specs.Lines.{HasReduced};
@@ -44,16 +46,15 @@ fn wrong_byte(kind: TextKind, at: u32) -> Outcome
 }
 
 /// The file that the tokens read as. The text ends at `end`.
-pub(crate) fn parsed<'t>(
-    alloc: Global,
-    tokens: &Tokens<'t>,
-    end: u32,
-) -> Result<File<'t>, Outcome>
+pub(crate) fn parsed<'t>(alloc: Global, tokens: &Tokens<'t>, end: u32) -> Result<File<'t>, Outcome>
     requires { length tokens.now < 2 ^ 32 - 1 }
     ensures says { Says file_of (file_step end (file_read tokens.now)) result }
+    ensures found { IfOk result (λ f. Reads tokens.now (file_of f)) }
+    ensures low { IfOk result (λ f. greatest_height (file_of f) < 2 ^ 32) }
     ensures shows { MatchResult result (λ _. Unit {0}) TextShows }
     ensures reduced { MatchResult result (λ _. Unit {0}) HasReduced }
 {
+    mp_decl::heights_law();
     match mp_gram::parse(alloc, tokens) {
         Ok(file) => Ok(file),
         Err(ParseFault::Token { index }) => Err(wrong_token(tokens, index, end)),

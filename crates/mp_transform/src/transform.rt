@@ -1,6 +1,8 @@
 // From a text to the canonical text of its model: each step gives what the next one needs, or the outcome that ends the
 // run.
-ghost use Rattle.std.specs.Prelude.{◌≡◌, ◌<◌, ◌-◌, ◌^◌, length, Ok, IfOk, MatchResult};
+ghost use Rattle.std.specs.Prelude.{◌≡◌, ◌<◌, ◌≤◌, ◌-◌, ◌^◌, length, None, Ok, IfOk, MatchResult};
+ghost use Rattle.std.specs.Option.{ForSome};
+ghost use Rattle.mp_syntax.specs.Literals.{far_literal};
 ghost use Rattle.mp_file.specs.Shown.{file_of};
 ghost use Rattle.mp_declared.specs.Heights.{greatest_height};
 ghost use Rattle.mp_declared.specs.Shifts.{far_shift};
@@ -24,9 +26,6 @@ use mp_lex::Tokens;
 use mp_model_data::Model;
 use mp_trees::ModelFault;
 use std::alloc::Global;
-
-// How far a shift is told.
-const LIMIT: u128 = 10_000_000_000_000_000_000_000_000_000_000_000_000;
 
 /// The canonical text of the model that a text means: its names, the values of its parameters and its equations, with
 /// exponents folded and the fewest parentheses; or the first refusal: of tokens, grammar, declarations, values, shifts
@@ -67,6 +66,8 @@ fn tested<'t>(
     file: &File<'t>,
     end: u32,
 ) -> Result<Model<'t>, Outcome>
+    requires near { far_literal tokens.now ≡ None → ForSome (far_shift (file_of file.now)) (λ x. x.1 ≤ 10 ^ 37) }
+    requires low { greatest_height (file_of file.now) < 2 ^ 32 }
     ensures says { Says model_data (tested end tokens.now (file_of file.now)) result }
     ensures shows { MatchResult result (λ _. Unit {0}) TextShows }
     ensures reduced { MatchResult result (λ _. Unit {0}) HasReduced }
@@ -85,6 +86,8 @@ fn limited<'t>(
 ) -> Result<Model<'t>, Outcome>
     requires names { declared.now.names ≡ names_of (file_of file.now) }
     requires values { values_given (file_of file.now) ≡ Ok declared.now.values }
+    requires near { ForSome (far_shift (file_of file.now)) (λ x. x.1 ≤ 10 ^ 37) }
+    requires low { greatest_height (file_of file.now) < 2 ^ 32 }
     ensures says { Says model_data (limited end (file_of file.now)) result }
     ensures shows { MatchResult result (λ _. Unit {0}) TextShows }
     ensures reduced { MatchResult result (λ _. Unit {0}) HasReduced }
@@ -104,18 +107,21 @@ fn declared<'t>(
     ensures says { Says (λ d. d.values) (declared_given end tokens.now (file_of file.now)) result }
     ensures names { IfOk result (λ d. d.names ≡ names_of (file_of file.now)) }
     ensures values { IfOk result (λ d. values_given (file_of file.now) ≡ Ok d.values) }
+    ensures in_range { IfOk result (λ _. far_literal tokens.now ≡ None) }
     ensures shows { MatchResult result (λ _. Unit {0}) TextShows }
     ensures reduced { MatchResult result (λ _. Unit {0}) HasReduced }
 {
     match mp_decl::declare(alloc, tokens, file, end) {
         Ok(declared) => Ok(declared),
         Err(DeclFault::Declared { kind, name, at }) => Err(Outcome::Declared { kind, name, at }),
-        Err(DeclFault::Data {
-            kind,
-            at,
-            first,
-            second,
-        }) => Err(Outcome::Data {
+        Err(
+            DeclFault::Data {
+                kind,
+                at,
+                first,
+                second,
+            },
+        ) => Err(Outcome::Data {
             kind,
             at,
             first,
@@ -127,6 +133,7 @@ fn declared<'t>(
 
 // No variable is shifted by more than 24 periods.
 fn not_far(file: &File) -> Result<(), Outcome>
+    requires { ForSome (far_shift (file_of file.now)) (λ x. x.1 ≤ 10 ^ 37) }
     ensures says { Says (λ u. u) (shift_step (far_shift (file_of file.now))) result }
     ensures shows { MatchResult result (λ _. Unit {0}) TextShows }
     ensures reduced { MatchResult result (λ _. Unit {0}) HasReduced }
@@ -137,7 +144,7 @@ fn not_far(file: &File) -> Result<(), Outcome>
             kind: DataKind::ShiftFar,
             at: far.at,
             first: Ratio {
-                n: far.periods.min(LIMIT) as i128,
+                n: far.periods as i128,
                 d: 1,
             },
             second: Ratio { n: 24, d: 1 },
@@ -147,6 +154,7 @@ fn not_far(file: &File) -> Result<(), Outcome>
 
 // No side of an equation is higher than 500.
 fn not_deep(file: &File) -> Result<(), Outcome>
+    requires { greatest_height (file_of file.now) < 2 ^ 32 }
     ensures says { Says (λ u. u) (deep_step (greatest_height (file_of file.now))) result }
     ensures shows { MatchResult result (λ _. Unit {0}) TextShows }
     ensures reduced { MatchResult result (λ _. Unit {0}) HasReduced }
@@ -186,12 +194,14 @@ fn model<'t>(
             name: Label::of(name),
             at: end,
         }),
-        Err(ModelFault::Refused {
-            kind,
-            at,
-            first,
-            second,
-        }) => Err(refused(kind, at, first, second)),
+        Err(
+            ModelFault::Refused {
+                kind,
+                at,
+                first,
+                second,
+            },
+        ) => Err(refused(kind, at, first, second)),
         Err(ModelFault::NoMemory) => Err(Outcome::NoMemory),
     }
 }
