@@ -1,5 +1,5 @@
 #!/bin/sh
-# Times `transform` on accepted texts near the limits: seconds and MB/s of the built program.
+# Times `transform` on texts near the limits: seconds and MB/s of the built program.
 # Usage: bench/transform.sh        (after `./modpath transform examples/one.mod`, which builds the program)
 top=$(dirname -- "$(readlink -f -- "$0")")/..
 program=$top/crates/modpath/out/modpath
@@ -8,7 +8,7 @@ work=$(mktemp -d) || exit 1
 trap 'rm -rf "$work"' EXIT
 
 # equations, terms in each, bytes of each name
-text() {
+products() {
   awk -v equations="$1" -v terms="$2" -v size="$3" 'BEGIN {
     for (i = 1; i <= equations; i++) { name[i] = "x" i; while (length(name[i]) < size) name[i] = name[i] "_" }
     printf "var"; for (i = 1; i <= equations; i++) printf " %s", name[i]; print ";"
@@ -21,23 +21,72 @@ text() {
     print "end;" }'
 }
 
-now() { date +%s.%N; }
+# so many lines of comments, of both forms, before a small model
+comments() {
+  awk -v lines="$1" 'BEGIN {
+    for (i = 1; i <= lines; i++) print (i % 2) ? "// a comment to the end of its line, as written by hand" : "/* a comment that has an end of its own, * and / in it */"
+    print "var x; model; x = 2*x(-1); end;" }'
+}
 
+# so many quoted texts, which are tokens; none may stand here
+texts() {
+  awk -v texts="$1" 'BEGIN { printf "var x; model; x = 2*x(-1); end; "; for (i = 1; i <= texts; i++) print "\047a text in quotes, as for a name\047" }'
+}
+
+# so many equations, each with 500 parentheses open
+parentheses() {
+  awk -v equations="$1" 'BEGIN {
+    for (k = 1; k <= 500; k++) { open = open "("; close_ = close_ ")" }
+    printf "var"; for (i = 1; i <= equations; i++) printf " x%d", i; print ";"
+    print "model;"
+    for (i = 1; i <= equations; i++) printf "x%d=%s1%s;\n", i, open, close_
+    print "end;" }'
+}
+
+# one expression with 500 parentheses open in so many places
+places() {
+  awk -v places="$1" 'BEGIN {
+    printf "var x; model; x = "; for (k = 1; k <= 499; k++) printf "("
+    printf "1"; for (i = 1; i <= places; i++) printf "+(x)"
+    for (k = 1; k <= 499; k++) printf ")"; print "; end;" }'
+}
+
+# a sum of so many terms
+sum() {
+  awk -v terms="$1" 'BEGIN { printf "var x; model; x = 1"; for (i = 1; i < terms; i++) printf "+x"; print "; end;" }'
+}
+
+# name, wanted status
 measure() {
-  text "$2" "$3" "$4" > "$work/text.mod"
   bytes=$(wc -c < "$work/text.mod")
   best=
   for turn in 1 2 3; do
-    begun=$(now)
-    "$program" transform "$work/text.mod" > "$work/out.mod" || { echo "$1: refused" >&2; exit 1; }
-    ended=$(now)
+    begun=$(date +%s.%N)
+    "$program" transform "$work/text.mod" > "$work/out.mod" 2> "$work/fault"
+    status=$?
+    ended=$(date +%s.%N)
+    [ "$status" = "$2" ] || { echo "$1: status $status: $(cat "$work/fault")" >&2; exit 1; }
     best=$(awk -v a="$begun" -v b="$ended" -v best="$best" 'BEGIN { t = b - a; print (best == "" || t < best) ? t : best }')
   done
-  awk -v what="$1" -v bytes="$bytes" -v products="$(($2 * $3))" -v t="$best" 'BEGIN {
-    printf "%-34s %8d products %8.2f MB %7.3f s %8.1f MB/s\n", what, products, bytes / 1e6, t, bytes / 1e6 / t }'
+  awk -v what="$1" -v status="$2" -v bytes="$bytes" -v t="$best" 'BEGIN {
+    printf "%-44s status %d %8.2f MB %7.3f s %8.1f MB/s\n", what, status, bytes / 1e6, t, bytes / 1e6 / t }'
 }
 
-measure "100 equations of 480 terms" 100 480 1
-measure "200 equations of 480 terms" 200 480 1
-measure "the same, names of 36 bytes" 200 480 36
-measure "the same, names of 75 bytes" 200 480 75
+products 100 480 1 > "$work/text.mod"
+measure "100 equations of 480 products" 0
+products 200 480 1 > "$work/text.mod"
+measure "200 equations of 480 products" 0
+products 200 480 36 > "$work/text.mod"
+measure "the same, names of 36 bytes" 0
+products 200 480 75 > "$work/text.mod"
+measure "the same, names of 75 bytes" 0
+comments 148000 > "$work/text.mod"
+measure "comments" 0
+texts 240000 > "$work/text.mod"
+measure "quoted texts, no token of the grammar" 5
+parentheses 8000 > "$work/text.mod"
+measure "8,000 equations with 500 ( open" 0
+places 10000 > "$work/text.mod"
+measure "500 ( open in 10,000 places, too high" 7
+sum 1000000 > "$work/text.mod"
+measure "a sum of 1,000,000 terms, too high" 7

@@ -3,4 +3,3 @@ pub mod Inverse
 pub mod Places
 pub mod Ratios
 pub mod ReadShifts
-pub mod Values
