@@ -80,7 +80,7 @@ products 200 480 36 > "$work/text.mod"
 measure "the same, names of 36 bytes" 0
 products 200 480 75 > "$work/text.mod"
 measure "the same, names of 75 bytes" 0
-comments 148000 > "$work/text.mod"
+comments 140000 > "$work/text.mod"
 measure "comments" 0
 texts 240000 > "$work/text.mod"
 measure "quoted texts, no token of the grammar" 5

@@ -1,5 +1,5 @@
 -- Which files declare their model: each name once and before it is read, one model block, as many equations as variables, and a value for each parameter (Dynare manual, "The model file"; which fault is named is modpath's own).
-use Rattle.std.specs.Prelude.{ℕ, List, [], ◌∷◌, ◌++◌, map, length, take, codes, Bool, true, false, not, ◌&&◌, ◌==◌, nat_le, if◌then◌else◌, Option, Some, None, find}
+use Rattle.std.specs.Prelude.{ℕ, List, [], ◌∷◌, map, length, take, codes, Bool, true, false, not, ◌&&◌, ◌==◌, nat_le, if◌then◌else◌, Option, Some, None, find}
 use Rattle.std.specs.Option.{option_or}
 use Rattle.std.specs.List.{flat_map, list_any}
 use Rattle.std.specs.Str.{bytes_eq}
@@ -7,7 +7,7 @@ use Rattle.mp_base.specs.declared.kinds.DeclKind.{DeclKind}
 use Rattle.mp_base.specs.declared.kinds.DeclKind.TheVariants as k
 use Rattle.mp_syntax.specs.declared.terminal.NameKind.{NameKind}
 use Rattle.mp_syntax.specs.declared.terminal.NameKind.TheVariants as kind
-use Rattle.mp_syntax.specs.Syntax.{Shift, Named, Expr, Statement, Declares, Assigns, Model}
+use Rattle.mp_syntax.specs.Syntax.{Shift, Named, Statement, Declares, Assigns, Model}
 use Rattle.mp_syntax.specs.Literals.{number_of}
 use Rattle.mp_syntax.specs.Parts.{names_of, equations_of}
 use Rattle.mp_declared.specs.Points.{Reader, Equation, Constant, Point, Declared, Assigned, Begins, Reads, reads, points_of, with_earlier}

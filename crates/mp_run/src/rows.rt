@@ -6,6 +6,7 @@ use mp_base::{NoMemory, Outcome, Steps, WordList};
 use mp_outside::{Calls, Listing, MemFiles, MemSink};
 use std::alloc::Global;
 use std::marker::Brand;
+use std::process::Abort;
 use std::sync::ledger::{Blank, Ledger};
 use std::test::Fail;
 
@@ -58,9 +59,34 @@ fn came_of<L: Ledger>(
     Ok(Came { outcome, out, err })
 }
 
+// What an answer is to be: the status, what is written, and what is told.
+#[derive(Drop)]
+struct Wanted<'a> {
+    code: u8,
+    out: &'a [u8],
+    err: &'a [u8],
+}
+
+// The run answers, writes and tells what is wanted.
+fn answers(
+    rt: &impl Abort,
+    alloc: Global,
+    words: &[&str],
+    row: &Row,
+    wanted: &Wanted,
+) -> Result<(), NoMemory> {
+    let came = came_of::<Brand>(alloc, words, row, Blank::new(1))?;
+    assert_eq!(rt; came.outcome.code(), wanted.code);
+    assert_eq!(rt; came.out.taken(), wanted.out);
+    assert_eq!(rt; came.err.taken(), wanted.err);
+    Ok(())
+}
+
 const TRANSFORM: &[&str] = &["transform", "m"];
 
-// `transform m` on this text, with ample room.
+const EXPAND: &[&str] = &["expand", "m"];
+
+// This text in the file m, with ample room.
 fn plain(text: &[u8]) -> Row<'_> {
     Row {
         text,
@@ -71,30 +97,49 @@ fn plain(text: &[u8]) -> Row<'_> {
     }
 }
 
+// A text is written.
+fn done(out: &[u8]) -> Wanted<'_> {
+    Wanted {
+        code: 0,
+        out,
+        err: b"",
+    }
+}
+
+// A refusal with this status and line.
+fn refused(code: u8, err: &[u8]) -> Wanted<'_> {
+    Wanted {
+        code,
+        out: b"",
+        err,
+    }
+}
+
+// What a worked run shows.
+fn shown(row: &mp_vectors::Row) -> Wanted<'_> {
+    Wanted {
+        code: row.status,
+        out: row.out,
+        err: row.err,
+    }
+}
+
 // Each worked run gives what was worked out by hand.
 #[test]
 fn texts_are_transformed_or_refused(rt: HostRuntime) -> Result<(), Fail> {
     for rows in [mp_vectors::TRANSFORMED, mp_vectors::REFUSED].iter() {
         for row in *rows {
-            let came = came_of::<Brand>(rt.alloc(), TRANSFORM, &plain(row.text), Blank::new(1))?;
-            assert_eq!(rt; came.outcome.code(), row.status);
-            assert_eq!(rt; came.out.taken(), row.out);
-            assert_eq!(rt; came.err.taken(), row.err);
+            answers(&rt, rt.alloc(), TRANSFORM, &plain(row.text), &shown(row))?;
         }
     }
     Ok(())
 }
 
-const EXPAND: &[&str] = &["expand", "m"];
-
 // Each worked expansion gives what was worked out by hand.
 #[test]
 fn texts_are_expanded_or_refused(rt: HostRuntime) -> Result<(), Fail> {
     for row in mp_vectors::EXPANDED {
-        let came = came_of::<Brand>(rt.alloc(), EXPAND, &plain(row.text), Blank::new(1))?;
-        assert_eq!(rt; came.outcome.code(), row.status);
-        assert_eq!(rt; came.out.taken(), row.out);
-        assert_eq!(rt; came.err.taken(), row.err);
+        answers(&rt, rt.alloc(), EXPAND, &plain(row.text), &shown(row))?;
     }
     Ok(())
 }
@@ -102,62 +147,58 @@ fn texts_are_expanded_or_refused(rt: HostRuntime) -> Result<(), Fail> {
 // Definitions in the words, a file that is included twice, and a text that is transformed once it is expanded.
 #[test]
 fn words_and_files_are_read_in_order(rt: HostRuntime) -> Result<(), Fail> {
-    let text = b"x@{N+1} // @{N}";
-    let words = ["expand", "m", "N=2"];
-    let came = came_of::<Brand>(rt.alloc(), words.as_slice(), &plain(text), Blank::new(1))?;
-    assert_eq!(rt; came.out.taken(), b"x3 // @{N}\n".as_slice());
+    let text = plain(b"x@{N+1} // @{N}");
+    let defined = ["expand", "m", "N=2"];
+    answers(
+        &rt,
+        rt.alloc(),
+        defined.as_slice(),
+        &text,
+        &done(b"x3 // @{N}\n"),
+    )?;
 
     let mut both = plain(b"@#include \"a\"\n@#include \"b\"");
     both.part = b"p";
-    let came = came_of::<Brand>(rt.alloc(), EXPAND, &both, Blank::new(1))?;
-    assert_eq!(rt; came.out.taken(), b"p\np\n".as_slice());
+    answers(&rt, rt.alloc(), EXPAND, &both, &done(b"p\np\n"))?;
     both.failing_fetch = 3;
-    let came = came_of::<Brand>(rt.alloc(), EXPAND, &both, Blank::new(1))?;
-    assert_eq!(rt; came.outcome.code(), 11);
-    assert_eq!(rt;
-        came.err.taken(),
-        b"modpath: 11 ReadFault count=1\n".as_slice()
-    );
+    let unread = refused(11, b"modpath: 11 ReadFault count=1\n");
+    answers(&rt, rt.alloc(), EXPAND, &both, &unread)?;
 
-    let text = b"@#define N = 2\nvar x; model; x = @{N}*x(-1); end;";
-    let came = came_of::<Brand>(rt.alloc(), TRANSFORM, &plain(text), Blank::new(1))?;
-    assert_eq!(rt;
-        came.out.taken(),
-        b"var x;\nmodel;\nx = 2*x(-1);\nend;\n".as_slice()
-    );
+    let text = plain(b"@#define N = 2\nvar x; model; x = @{N}*x(-1); end;");
+    let canonical = done(b"var x;\nmodel;\nx = 2*x(-1);\nend;\n");
+    answers(&rt, rt.alloc(), TRANSFORM, &text, &canonical)?;
     Ok(())
 }
 
-// An equation whose right side is a sum of this many terms.
-fn sum_of(alloc: Global, terms: u32) -> Result<Vec<u8>, NoMemory> {
+// A sum of this many terms between these bytes.
+fn sum_of(alloc: Global, front: &[u8], terms: u32, back: &[u8]) -> Result<Vec<u8>, NoMemory> {
     let mut text = Vec::new(alloc);
-    text.extend_from_slice(b"var x; model; x = x")?;
+    text.extend_from_slice(front)?;
     for _ in 1..terms {
         text.extend_from_slice(b"+x")?;
     }
-    text.extend_from_slice(b"; end;")?;
+    text.extend_from_slice(back)?;
     Ok(text)
 }
 
+// A side that is a sum of 500 terms is printed, and one of 501 is refused.
 #[test]
 fn a_side_is_500_nodes_high_at_most(rt: HostRuntime) -> Result<(), Fail> {
-    for (terms, code, err) in [
-        (500, 0, b"".as_slice()),
-        (
-            501,
-            7,
-            b"modpath: 7 Data kind=TooDeep at=0 first=501 second=500\n",
-        ),
-    ]
-    .iter()
-    {
-        let text = sum_of(rt.alloc(), *terms)?;
-        let mut row = plain(text.as_slice());
-        row.out_room = 2048;
-        let came = came_of::<Brand>(rt.alloc(), TRANSFORM, &row, Blank::new(1))?;
-        assert_eq!(rt; came.outcome.code(), *code);
-        assert_eq!(rt; came.err.taken(), *err);
-    }
+    let alloc = rt.alloc();
+    let low = sum_of(alloc, b"var x; model; x = x", 500, b"; end;")?;
+    let printed = sum_of(alloc, b"var x;\nmodel;\nx = x", 500, b";\nend;\n")?;
+    let mut row = plain(low.as_slice());
+    row.out_room = 2048;
+    answers(&rt, alloc, TRANSFORM, &row, &done(printed.as_slice()))?;
+    let high = sum_of(alloc, b"var x; model; x = x", 501, b"; end;")?;
+    let deep = b"modpath: 7 Data kind=TooDeep at=0 first=501 second=500\n";
+    answers(
+        &rt,
+        alloc,
+        TRANSFORM,
+        &plain(high.as_slice()),
+        &refused(7, deep),
+    )?;
     Ok(())
 }
 
@@ -179,10 +220,7 @@ fn words_are_a_job_a_file_and_definitions(rt: HostRuntime) -> Result<(), Fail> {
         ),
     ];
     for (words, code, err) in rows.iter() {
-        let came = came_of::<Brand>(rt.alloc(), *words, &plain(b""), Blank::new(1))?;
-        assert_eq!(rt; came.outcome.code(), *code);
-        assert_eq!(rt; came.out.taken(), b"".as_slice());
-        assert_eq!(rt; came.err.taken(), *err);
+        answers(&rt, rt.alloc(), *words, &plain(b""), &refused(*code, *err))?;
     }
     Ok(())
 }
@@ -192,28 +230,21 @@ fn faults_of_the_outside_are_told(rt: HostRuntime) -> Result<(), Fail> {
     let text = b"var x; model; x = 2*x(-1); end;";
     let mut cut = plain(text);
     cut.out_room = 10;
-    let came = came_of::<Brand>(rt.alloc(), TRANSFORM, &cut, Blank::new(1))?;
-    assert_eq!(rt; came.outcome.code(), 12);
-    assert_eq!(rt; came.out.taken(), b"var x;\nmod".as_slice());
-    assert_eq!(rt;
-        came.err.taken(),
-        b"modpath: 12 WriteFault count=1\n".as_slice()
-    );
+    let part = Wanted {
+        code: 12,
+        out: b"var x;\nmod",
+        err: b"modpath: 12 WriteFault count=1\n",
+    };
+    answers(&rt, rt.alloc(), TRANSFORM, &cut, &part)?;
 
     let mut unread = plain(text);
     unread.failing_fetch = 1;
-    let came = came_of::<Brand>(rt.alloc(), TRANSFORM, &unread, Blank::new(1))?;
-    assert_eq!(rt; came.outcome.code(), 11);
-    assert_eq!(rt;
-        came.err.taken(),
-        b"modpath: 11 ReadFault count=1\n".as_slice()
-    );
+    let fault = refused(11, b"modpath: 11 ReadFault count=1\n");
+    answers(&rt, rt.alloc(), TRANSFORM, &unread, &fault)?;
 
     let mut untold = plain(b"var @");
     untold.err_room = 7;
-    let came = came_of::<Brand>(rt.alloc(), TRANSFORM, &untold, Blank::new(1))?;
-    assert_eq!(rt; came.outcome.code(), 5);
-    assert_eq!(rt; came.err.taken(), b"modpath".as_slice());
+    answers(&rt, rt.alloc(), TRANSFORM, &untold, &refused(5, b"modpath"))?;
     Ok(())
 }
 
@@ -223,23 +254,29 @@ fn a_file_and_its_text_may_have_8388608_bytes(rt: HostRuntime) -> Result<(), Fai
     let rows = [
         (
             8_388_607,
+            6,
             b"modpath: 6 Declared kind=NoModel name= at=8388608\n".as_slice(),
         ),
         (
             8_388_608,
+            4,
             b"modpath: 4 Macro kind=TextLimit file=m line=1\n",
         ),
-        (8_388_609, b"modpath: 4 Macro kind=FileLong file=m line=0\n"),
+        (
+            8_388_609,
+            4,
+            b"modpath: 4 Macro kind=FileLong file=m line=0\n",
+        ),
     ];
-    for (size, err) in rows.iter() {
+    for (size, code, err) in rows.iter() {
         let text = vec![in rt.alloc(); b' '; *size]?;
-        let came = came_of::<Brand>(
+        answers(
+            &rt,
             rt.alloc(),
             TRANSFORM,
             &plain(text.as_slice()),
-            Blank::new(1),
+            &refused(*code, *err),
         )?;
-        assert_eq!(rt; came.err.taken(), *err);
     }
     Ok(())
 }

@@ -1,5 +1,5 @@
 -- A text that reads back.
-use Rattle.std.specs.Prelude.{◌≡◌, ℕ, List, map, Option, option_map, Ok}
+use Rattle.std.specs.Prelude.{◌≡◌, ℕ, List, map, option_map, Ok}
 use Rattle.mp_syntax.specs.Tokens.{Tok, tokens}
 use Rattle.mp_syntax.specs.Syntax.{Named, Expr, Number, Variable, Plus, Minus, Times, Over, Signed, Power, Paren, Min, Max, Item, Statement, Declares, Assigns, Model}
 use Rattle.mp_syntax.specs.Grammar.{Reads}

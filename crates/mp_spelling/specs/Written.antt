@@ -1,5 +1,5 @@
 -- A file as a text may write it: names are names, literals are numbers, and operands are what the grammar lets stand there.
-use Rattle.std.specs.Prelude.{◌≡◌, ℕ, suc, ◌≤◌, ◌<◌, max, List, [], ◌∷◌, length, true, false, Option, Some, None, nat_le}
+use Rattle.std.specs.Prelude.{◌≡◌, ℕ, suc, ◌≤◌, ◌<◌, max, List, [], ◌∷◌, length, true, Option, Some, None, nat_le}
 use Rattle.std.specs.Char.{is_ascii_digit}
 use Rattle.std.specs.List.{list_all}
 use Rattle.mp_syntax.specs.declared.terminal.Terminal.TheVariants as t

@@ -1,7 +1,7 @@
 -- Laws of definitions that follow one another.
 use Rattle.std.proofs.lemmas.List.{drop_more}
-use Rattle.std.proofs.lemmas.Option.{slice_get_within, get_or_from_slice_get, slice_get-get_or}
-use Rattle.std.proofs.Common.{get_or, length, slice_get, ◌≡◌, ℕ, zero, suc, ◌+◌, ◌-◌, ◌*◌, ◌≤◌, ◌<◌, List, [], ◌∷◌, ◌++◌, drop, refl, ap, sym, ◌∙◌, arith, Bool, true, false, Option, Some, None, Result, Ok, Err, nat_le, if◌then◌else◌, append_assoc, subst, take}
+use Rattle.std.proofs.lemmas.Option.{slice_get_within, get_or_from_slice_get}
+use Rattle.std.proofs.Common.{slice_get, ◌≡◌, ℕ, suc, ◌+◌, ◌-◌, ◌*◌, ◌≤◌, ◌<◌, List, [], ◌∷◌, ◌++◌, drop, refl, ap, sym, ◌∙◌, arith, Bool, true, false, Option, Some, None, Result, Ok, Err, nat_le, if◌then◌else◌, append_assoc, subst, take}
 use Rattle.std.specs.Prelude.{IsTrue, is_some, nat_lt, position, ◌&&◌}
 use Rattle.mp_mexpr.specs.declared.defines.Define.{Define}
 use Rattle.mp_mexpr.specs.declared.value.Value.{Value}

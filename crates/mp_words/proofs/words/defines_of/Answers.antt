@@ -1,4 +1,4 @@
-use Rattle.std.proofs.Common.{◌≡◌, ◌≤◌, ◌<◌, ◌+◌, ◌-◌, Some, None, true, slice_get, sym, ap, ◌∙◌, arith}
+use Rattle.std.proofs.Common.{◌≡◌, ◌+◌, Some, slice_get, sym, ap, ◌∙◌}
 use Rattle.mp_words.specs.Shown.{wrong_of}
 use Rattle.mp_words.proofs.Defines.{at-word, right-define, right-room, from-some, wrong-one, after, after-one, from}
 use Rattle.mp_words.proofs.words.defines_of.Goals as goal

@@ -1,4 +1,4 @@
-use Rattle.std.proofs.Common.{◌≡◌, ◌≤◌, length, None}
+use Rattle.std.proofs.Common.{◌≡◌, None}
 use Rattle.mp_words.specs.Shown.{wrong_of}
 use Rattle.mp_words.proofs.Defines.{from, after}
 use Rattle.mp_words.proofs.words.defines_of.Given as goal

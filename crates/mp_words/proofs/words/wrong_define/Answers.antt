@@ -1,4 +1,4 @@
-use Rattle.std.proofs.Common.{◌≡◌, ◌≤◌, ◌<◌, ◌+◌, ◌-◌, Some, false, true, get_or, [], slice_get, sym, ap, ◌∙◌, arith}
+use Rattle.std.proofs.Common.{◌≡◌, Some, false, true, get_or, [], slice_get, sym, ◌∙◌, arith}
 use Rattle.std.proofs.lemmas.Option.{slice_get-get_or}
 use Rattle.std.specs.Prelude.{is_some}
 use Rattle.mp_words.specs.Words.{define_of}

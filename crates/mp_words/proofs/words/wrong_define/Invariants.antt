@@ -1,4 +1,4 @@
-use Rattle.std.proofs.Common.{◌≡◌, ◌≤◌, length}
+use Rattle.std.proofs.Common.{◌≡◌}
 use Rattle.mp_words.specs.Shown.{wrong_of}
 use Rattle.mp_words.proofs.Defines.{from}
 use Rattle.mp_words.proofs.words.wrong_define.Given as goal

@@ -1,9 +1,8 @@
-use Rattle.std.proofs.Common.{false, ℕ, ◌/◌, ◌≤◌, ap, sym, ◌∙◌, subst, arith}
+use Rattle.std.proofs.Common.{false, ℕ, ◌/◌, ap, sym, ◌∙◌, subst}
 use Rattle.std.specs.Int.{IsGcd}
 use Rattle.std.specs.Int.RustNames.{unsigned_abs}
 use Rattle.mp_integer.proofs.Signs.{unsigned_abs-signed}
 use Rattle.mp_integer.proofs.Divisors.{quotient_positive, quotients_coprime}
-use Rattle.mp_frac.specs.Limit.{limit}
 use Rattle.mp_frac.proofs.Outcomes.{ratio_by_divisor}
 use Rattle.mp_frac.proofs.Values.{value_by}
 use Rattle.mp_frac.proofs.frac.Frac.ratio.Goals as goal
