@@ -5,8 +5,8 @@ use Rattle.std.specs.Option.{option_or}
 use Rattle.std.specs.Str.{bytes_eq}
 use Rattle.std.proofs.lemmas.List.Folds.{list_any-append}
 use Rattle.std.proofs.lemmas.Slice.Eq.{bytes_eq-Decides}
-use Rattle.mp_syntax.specs.declared.terminal.NameKind.{NameKind}
-use Rattle.mp_syntax.specs.declared.terminal.NameKind.TheVariants as kind
+use Rattle.mp_statements.specs.declared.kind.NameKind.{NameKind}
+use Rattle.mp_statements.specs.declared.kind.NameKind.TheVariants as kind
 use Rattle.mp_values.specs.Names.{Names}
 use Rattle.mp_names.specs.Named.{kind_in, with_name}
 use Rattle.mp_declared.specs.Points.{Point, Declared, Assigned, Begins, Reads}

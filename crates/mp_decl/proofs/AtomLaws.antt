@@ -1,7 +1,7 @@
 -- What atoms and factors read.
 use Rattle.std.proofs.Common.{◌≡◌, ℕ, List, ◌++◌, Option, refl, sym, ap, ◌∙◌, rules}
-use Rattle.mp_syntax.specs.declared.terminal.Sign.{Sign}
-use Rattle.mp_syntax.specs.declared.terminal.Scale.{Scale}
+use Rattle.mp_syntax.specs.declared.operator.Sign.{Sign}
+use Rattle.mp_syntax.specs.declared.operator.Scale.{Scale}
 use Rattle.mp_syntax.specs.Syntax as s
 use Rattle.mp_file.specs.declared.Atom.{Atom}
 use Rattle.mp_file.specs.declared.Atom.TheVariants.{Paren, Least, Greatest}

@@ -2,7 +2,7 @@
 use Rattle.std.proofs.Common.{◌≡◌, ℕ, ◌+◌, ◌<◌, min, List, [], ◌∷◌, length, drop, get_or, arith, sym, ap, ◌∙◌}
 use Rattle.std.specs.List.{fold}
 use Rattle.std.proofs.lemmas.List.{drop_more}
-use Rattle.mp_syntax.specs.Literals.{with_digit}
+use Rattle.mp_tokens.specs.Literals.{with_digit}
 
 capped-with_digit : (a b d M : ℕ) → min a M ≡ min b M → min (with_digit a d) M ≡ min (with_digit b d) M
 capped-with_digit a b d M same = omega arith

@@ -2,7 +2,7 @@
 use Rattle.std.proofs.Common.{◌≡◌, ℕ, ◌+◌, ◌<◌, List, [], ◌∷◌, ◌++◌, map, length, drop, get_or, Ok, Err, refl, sym, ap, ◌∙◌}
 use Rattle.std.proofs.lemmas.List.{drop_more}
 use Rattle.mp_syntax.specs.Syntax as s
-use Rattle.mp_syntax.specs.Parts.{items_in, equations_of}
+use Rattle.mp_statements.specs.Parts.{items_in, equations_of}
 use Rattle.mp_file.specs.declared.Statement.{Statement}
 use Rattle.mp_file.specs.Shown.{statement_of}
 use Rattle.mp_values.specs.Table.{Table}

@@ -4,10 +4,10 @@ use Rattle.std.specs.List.{flat_map}
 use Rattle.std.proofs.Math.ListN.{drop_of_length-le}
 use Rattle.std.proofs.lemmas.List.{drop_more, map-append}
 use Rattle.std.proofs.lemmas.Grind.{flat_map-append}
-use Rattle.mp_syntax.specs.declared.terminal.Sign.{Sign}
-use Rattle.mp_syntax.specs.declared.terminal.Sign.TheVariants as sign
-use Rattle.mp_syntax.specs.declared.terminal.Scale.{Scale}
-use Rattle.mp_syntax.specs.declared.terminal.Scale.TheVariants as scale
+use Rattle.mp_syntax.specs.declared.operator.Sign.{Sign}
+use Rattle.mp_syntax.specs.declared.operator.Sign.TheVariants as sign
+use Rattle.mp_syntax.specs.declared.operator.Scale.{Scale}
+use Rattle.mp_syntax.specs.declared.operator.Scale.TheVariants as scale
 use Rattle.mp_syntax.specs.Syntax as s
 use Rattle.mp_file.specs.declared.Atom.{Atom}
 use Rattle.mp_file.specs.declared.Atom.TheVariants.{Paren, Least, Greatest}

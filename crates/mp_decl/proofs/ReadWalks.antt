@@ -2,7 +2,8 @@
 use Rattle.std.proofs.Common.{◌≡◌, ℕ, List, [], ◌∷◌, ◌++◌, Bool, true, false, cond, option_map, Option, Some, None, is_some, Ok, Err, refl, sym, ap, subst}
 use Rattle.std.specs.Prelude.{find}
 use Rattle.std.specs.List.{flat_map, AllByRecursion}
-use Rattle.mp_syntax.specs.Syntax.{Expr, Number, Variable, Plus, Minus, Times, Over, Signed, Power, Paren, Min, Max, Item}
+use Rattle.mp_syntax.specs.Syntax.{Expr, Number, Variable, Plus, Minus, Times, Over, Signed, Power, Paren, Min, Max}
+use Rattle.mp_statements.specs.Statements.{Item}
 use Rattle.mp_declared.specs.Points.{Point, Declared, Assigned, Begins, Reads, Reader, Equation, Constant, reads, item_reads}
 use Rattle.mp_declared.specs.Declared.{Fault, is_missing, names_read}
 use Rattle.mp_declared.specs.Sides.{right_side}

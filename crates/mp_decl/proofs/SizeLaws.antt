@@ -1,11 +1,12 @@
 -- An expression is at most as high as it has tokens.
 use Rattle.std.proofs.Common.{ℕ, zero, suc, ◌+◌, ◌≤◌, List, [], ◌∷◌, length, Option, arith}
-use Rattle.mp_syntax.specs.declared.terminal.Sign.{Sign}
-use Rattle.mp_syntax.specs.Tokens.{Tok}
-use Rattle.mp_syntax.specs.Syntax.{Expr, Term, Factor, Item, Statement, Named, scaled, joined, with_terms, with_factors, signed}
+use Rattle.mp_syntax.specs.declared.operator.Sign.{Sign}
+use Rattle.mp_tokens.specs.Tokens.{Tok}
+use Rattle.mp_syntax.specs.Syntax.{Expr, Term, Factor, Named, scaled, joined, with_terms, with_factors, signed}
+use Rattle.mp_statements.specs.Statements.{Item, Statement}
 use Rattle.mp_syntax.specs.Grammar as g
 use Rattle.mp_syntax.specs.Grammar.{Reading, Many, SignReads, ShiftReads, AtomReads, PowerReads, FactorReads, TimesReads, ProductReads, PlusReads, SumReads, ExprReads, Nothing, Whole, ItemReads, NameReads, StatementReads, Reads}
-use Rattle.mp_syntax.specs.Parts.{items_in, equations_of}
+use Rattle.mp_statements.specs.Parts.{items_in, equations_of}
 use Rattle.mp_declared.specs.Heights.{height, greatest, greatest_height}
 use Rattle.mp_decl.proofs.HeightLaws.{heights, greatest-heights, height-scaled, height-joined}
 

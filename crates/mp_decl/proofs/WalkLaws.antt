@@ -5,10 +5,10 @@ use Rattle.std.specs.Option.{option_or}
 use Rattle.std.proofs.lemmas.Grind.{flat_map-append}
 use Rattle.std.proofs.lemmas.List.Folds.{list_any-append}
 use Rattle.mp_base.specs.declared.kinds.DeclKind.TheVariants as k
-use Rattle.mp_syntax.specs.declared.terminal.NameKind.{NameKind}
-use Rattle.mp_syntax.specs.declared.terminal.NameKind.TheVariants as kind
-use Rattle.mp_syntax.specs.Syntax.{Statement}
-use Rattle.mp_syntax.specs.Parts.{is_kind}
+use Rattle.mp_statements.specs.declared.kind.NameKind.{NameKind}
+use Rattle.mp_statements.specs.declared.kind.NameKind.TheVariants as kind
+use Rattle.mp_statements.specs.Statements.{Statement}
+use Rattle.mp_statements.specs.Parts.{is_kind}
 use Rattle.mp_values.specs.Names.{Names}
 use Rattle.mp_names.specs.Named.{no_names, kind_in}
 use Rattle.mp_declared.specs.Points.{Point, Declared, Assigned, Begins, Reads, points_of, with_earlier}

@@ -4,10 +4,11 @@ use Rattle.std.specs.Prelude.{IsErrAnd}
 use Rattle.std.specs.List.{flat_map}
 use Rattle.std.proofs.lemmas.Grind.{flat_map-append}
 use Rattle.mp_base.specs.declared.kinds.DeclKind.TheVariants as d
-use Rattle.mp_syntax.specs.declared.terminal.NameKind.{NameKind}
-use Rattle.mp_syntax.specs.declared.terminal.NameKind.TheVariants as kind
-use Rattle.mp_syntax.specs.Syntax.{Named, Statement, Declares, Assigns, Model}
-use Rattle.mp_syntax.specs.Parts as parts
+use Rattle.mp_statements.specs.declared.kind.NameKind.{NameKind}
+use Rattle.mp_statements.specs.declared.kind.NameKind.TheVariants as kind
+use Rattle.mp_syntax.specs.Syntax.{Named}
+use Rattle.mp_statements.specs.Statements.{Statement, Declares, Assigns, Model}
+use Rattle.mp_statements.specs.Parts as parts
 use Rattle.mp_values.specs.Names.{Names, names_of}
 use Rattle.mp_names.specs.Named.{no_names}
 use Rattle.mp_declared.specs.Points.{Point, Declared, Assigned, Begins, Reads, Constant, reads, item_reads, points_in, points_of}

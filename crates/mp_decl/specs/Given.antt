@@ -9,10 +9,10 @@ use Rattle.mp_base.specs.declared.kinds.DeclKind.TheVariants as k
 use Rattle.mp_base.specs.declared.kinds.DataKind.TheVariants as d
 use Rattle.mp_rational.specs.Fraction.{Fraction}
 use Rattle.mp_rational.specs.Lowest.{numerator, denominator}
-use Rattle.mp_syntax.specs.Tokens.{Tok}
-use Rattle.mp_syntax.specs.Syntax.{Statement}
-use Rattle.mp_syntax.specs.Literals.{far_literal}
-use Rattle.mp_syntax.specs.Parts.{equations_of}
+use Rattle.mp_tokens.specs.Tokens.{Tok}
+use Rattle.mp_statements.specs.Statements.{Statement}
+use Rattle.mp_tokens.specs.Literals.{far_literal}
+use Rattle.mp_statements.specs.Parts.{equations_of}
 use Rattle.mp_values.specs.Table.{Table}
 use Rattle.mp_values.specs.Folded.{Stuck, Unvalued, Refused, Folded, values_given, all_exponents}
 use Rattle.mp_declared.specs.Declared.{Fault, declared_fault}

@@ -1,6 +1,6 @@
 -- Heights of sums and products as lists.
 use Rattle.std.specs.Prelude.{ℕ, ◌+◌, max, List, [], ◌∷◌, Option, Some, None}
-use Rattle.mp_syntax.specs.declared.terminal.Sign.{Sign}
+use Rattle.mp_syntax.specs.declared.operator.Sign.{Sign}
 use Rattle.mp_declared.specs.Heights.{signed_height}
 
 -- with the sign before it, if there is one

@@ -1,6 +1,6 @@
 -- Which parameters have no value yet.
 use Rattle.std.specs.Prelude.{ℕ, List, Option, None, find}
-use Rattle.mp_syntax.specs.Syntax.{Statement, Declares, Assigns, Model}
+use Rattle.mp_statements.specs.Statements.{Statement, Declares, Assigns, Model}
 use Rattle.mp_declared.specs.Points.{Constant, reads}
 use Rattle.mp_declared.specs.Declared.{is_missing, names_read}
 

@@ -3,7 +3,7 @@ use Rattle.std.specs.Prelude.{ℕ, List, [], ◌∷◌, length, not, ◌==◌, f
 use Rattle.std.specs.List.{flat_map}
 use Rattle.std.specs.Option.{option_or}
 use Rattle.mp_base.specs.declared.kinds.DeclKind.TheVariants as k
-use Rattle.mp_syntax.specs.Syntax.{Statement}
+use Rattle.mp_statements.specs.Statements.{Statement}
 use Rattle.mp_declared.specs.Declared.{Fault, fault_if, first_fault, is_missing, read_early, assigned_in}
 use Rattle.mp_decl.specs.declared.known.Known.{Known}
 

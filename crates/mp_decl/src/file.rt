@@ -1,6 +1,6 @@
 // Whether a file declares its model.
 ghost use Rattle.std.specs.Prelude.{◌≡◌, ◌==◌, [], map, length, IfOk};
-ghost use Rattle.mp_syntax.specs.Parts.{items_in, equations_of};
+ghost use Rattle.mp_statements.specs.Parts.{items_in, equations_of};
 ghost use Rattle.mp_file.specs.Shown.{statement_of, file_of};
 ghost use Rattle.mp_values.specs.Names.{names_of};
 ghost use Rattle.mp_declared.specs.Declared.{value_fault, unvalued, declared_fault};
@@ -15,7 +15,7 @@ use crate::walk::walk;
 use mp_base::DeclKind;
 use mp_file::{File, Named, Statement};
 use mp_names::Names;
-use mp_syntax::NameKind;
+use mp_statements::NameKind;
 use std::alloc::Global;
 
 /// The names of a file that declares its model, or the file's first fault: that of the first point in text order that

@@ -1,7 +1,7 @@
 // The first name that is sought, from left to right. Recursion goes over parentheses and exponents alone.
 ghost use Rattle.std.specs.Prelude.{◌≡◌, map, find, option_map};
 ghost use Rattle.std.specs.List.{flat_map};
-ghost use Rattle.mp_syntax.specs.Parts.{equations_of};
+ghost use Rattle.mp_statements.specs.Parts.{equations_of};
 ghost use Rattle.mp_file.specs.Shown.{atom_of, factor_of, product_of, expr_of, item_of};
 ghost use Rattle.mp_declared.specs.Points as p;
 ghost use Rattle.mp_declared.specs.Points.{reads, item_reads};

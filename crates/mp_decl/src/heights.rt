@@ -2,8 +2,8 @@
 // parentheses alone.
 ghost use Rattle.std.specs.Prelude.{◌≡◌, ◌≤◌, ◌-◌, ◌+◌, ◌^◌, min, max, map, List, [], length, option_map};
 ghost use Rattle.std.specs.List.{flat_map};
-ghost use Rattle.mp_syntax.specs.Tokens.{Tok};
-ghost use Rattle.mp_syntax.specs.Syntax.{Statement};
+ghost use Rattle.mp_tokens.specs.Tokens.{Tok};
+ghost use Rattle.mp_statements.specs.Statements.{Statement};
 ghost use Rattle.mp_syntax.specs.Grammar.{Reads};
 ghost use Rattle.mp_file.specs.Shown.{atom_of, factor_of, product_of, expr_of, item_of, file_of};
 ghost use Rattle.mp_declared.specs.Sides.{sides, right_side};

@@ -15,7 +15,7 @@ use crate::shifts::periods;
 use mp_base::{DeclKind, Label};
 use mp_file::{Named, Shift};
 use mp_names::Names;
-use mp_syntax::NameKind;
+use mp_statements::NameKind;
 use std::alloc::Global;
 
 /// The names that are declared so far, and whether the model block has begun.

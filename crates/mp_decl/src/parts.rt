@@ -1,6 +1,6 @@
 // What a statement holds.
 ghost use Rattle.std.specs.Prelude.{◌≡◌, map};
-ghost use Rattle.mp_syntax.specs.Parts.{items_in};
+ghost use Rattle.mp_statements.specs.Parts.{items_in};
 ghost use Rattle.mp_file.specs.Shown.{item_of, statement_of};
 
 use mp_file::{Item, Statement};

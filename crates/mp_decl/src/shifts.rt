@@ -1,6 +1,6 @@
 // How far names are shifted.
 ghost use Rattle.std.specs.Prelude.{◌≡◌, ◌-◌, ◌^◌, min, option_map};
-ghost use Rattle.mp_syntax.specs.Literals.{number_of};
+ghost use Rattle.mp_tokens.specs.Literals.{number_of};
 ghost use Rattle.mp_file.specs.Shown.{shift_of, file_of};
 ghost use Rattle.mp_declared.specs.Shifts.{magnitude, far_shift};
 ghost use Rattle.mp_decl.specs.Shown.{far_of, capped};

@@ -1,7 +1,7 @@
 // What a text declares.
 ghost use Rattle.std.specs.Prelude.{◌≡◌, None, Ok, map, IfOk, IfErr};
-ghost use Rattle.mp_syntax.specs.Literals.{far_literal, is_far, is_number};
-ghost use Rattle.mp_syntax.specs.Parts.{equations_of};
+ghost use Rattle.mp_tokens.specs.Literals.{far_literal, is_far, is_number};
+ghost use Rattle.mp_statements.specs.Parts.{equations_of};
 ghost use Rattle.mp_lex.specs.Shown.{tok_of};
 ghost use Rattle.mp_file.specs.Shown.{statement_of, file_of};
 ghost use Rattle.mp_values.specs.Names.{names_of};
@@ -20,7 +20,7 @@ use mp_fold::{FoldFault, assign_values, exponents};
 use mp_lex::{Token, Tokens};
 use mp_literal::decimal;
 use mp_names::{Names, Table};
-use mp_syntax::TokenKind;
+use mp_tokens::TokenKind;
 use std::alloc::Global;
 
 /// The names that a text declares, and its parameters with their values.

@@ -13,7 +13,7 @@ use crate::find::{find_in_items, find_in_sum};
 use crate::known::Known;
 use crate::search::{Read, Reader, Search};
 use mp_file::{Item, Named, Statement, Term};
-use mp_syntax::NameKind;
+use mp_statements::NameKind;
 
 pub(crate) fn walk<'t>(known: &mut Known<'t>, statements: &[Statement<'t>]) -> Result<(), DeclFault>
     ensures { Walks result known.old known.new (flat_map points_in (map statement_of statements.now)) }

@@ -5,11 +5,12 @@ use Rattle.std.specs.List.{flat_map, list_any}
 use Rattle.std.specs.Str.{bytes_eq}
 use Rattle.mp_base.specs.declared.kinds.DeclKind.{DeclKind}
 use Rattle.mp_base.specs.declared.kinds.DeclKind.TheVariants as k
-use Rattle.mp_syntax.specs.declared.terminal.NameKind.{NameKind}
-use Rattle.mp_syntax.specs.declared.terminal.NameKind.TheVariants as kind
-use Rattle.mp_syntax.specs.Syntax.{Shift, Named, Statement, Declares, Assigns, Model}
-use Rattle.mp_syntax.specs.Literals.{number_of}
-use Rattle.mp_syntax.specs.Parts.{names_of, equations_of}
+use Rattle.mp_statements.specs.declared.kind.NameKind.{NameKind}
+use Rattle.mp_statements.specs.declared.kind.NameKind.TheVariants as kind
+use Rattle.mp_syntax.specs.Syntax.{Shift, Named}
+use Rattle.mp_statements.specs.Statements.{Statement, Declares, Assigns, Model}
+use Rattle.mp_tokens.specs.Literals.{number_of}
+use Rattle.mp_statements.specs.Parts.{names_of, equations_of}
 use Rattle.mp_declared.specs.Points.{Reader, Equation, Constant, Point, Declared, Assigned, Begins, Reads, reads, points_of, with_earlier}
 
 -- why a file is refused: the kind, at most 128 bytes of the name that fails, and a place

@@ -1,10 +1,11 @@
 -- How high the sides of a file's equations are (modpath's own).
 use Rattle.std.specs.Prelude.{ℕ, ◌+◌, max, List, [], ◌∷◌, map}
 use Rattle.std.specs.List.{flat_map}
-use Rattle.mp_syntax.specs.declared.terminal.Sign.{Sign}
-use Rattle.mp_syntax.specs.declared.terminal.Sign.TheVariants as sign
-use Rattle.mp_syntax.specs.Syntax.{Expr, Number, Variable, Plus, Minus, Times, Over, Signed, Power, Paren, Min, Max, Statement}
-use Rattle.mp_syntax.specs.Parts.{equations_of}
+use Rattle.mp_syntax.specs.declared.operator.Sign.{Sign}
+use Rattle.mp_syntax.specs.declared.operator.Sign.TheVariants as sign
+use Rattle.mp_syntax.specs.Syntax.{Expr, Number, Variable, Plus, Minus, Times, Over, Signed, Power, Paren, Min, Max}
+use Rattle.mp_statements.specs.Statements.{Statement}
+use Rattle.mp_statements.specs.Parts.{equations_of}
 use Rattle.mp_declared.specs.Sides.{sides}
 
 -- a "-" before an expression is a node, a "+" is none

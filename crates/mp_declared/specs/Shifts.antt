@@ -1,9 +1,10 @@
 -- Which shifts are too far (modpath's own).
 use Rattle.std.specs.Prelude.{ℕ, List, [], ◌∷◌, Bool, not, nat_le, if◌then◌else◌, Option, Some, None}
 use Rattle.std.specs.List.{flat_map}
-use Rattle.mp_syntax.specs.Syntax.{Shift, Statement}
-use Rattle.mp_syntax.specs.Literals.{number_of}
-use Rattle.mp_syntax.specs.Parts.{equations_of}
+use Rattle.mp_syntax.specs.Syntax.{Shift}
+use Rattle.mp_statements.specs.Statements.{Statement}
+use Rattle.mp_tokens.specs.Literals.{number_of}
+use Rattle.mp_statements.specs.Parts.{equations_of}
 use Rattle.mp_declared.specs.Points.{Point, Reads, item_reads}
 
 -- how many periods a name is shifted, either way

@@ -1,6 +1,7 @@
 -- The sides of a file's equations.
 use Rattle.std.specs.Prelude.{List, [], ◌∷◌, Option, Some, None, codes}
-use Rattle.mp_syntax.specs.Syntax.{Expr, Number, Item}
+use Rattle.mp_syntax.specs.Syntax.{Expr, Number}
+use Rattle.mp_statements.specs.Statements.{Item}
 
 -- a right side that is not written is 0
 abbrev pub right_side : Option Expr → Expr

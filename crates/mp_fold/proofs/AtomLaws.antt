@@ -1,6 +1,6 @@
 -- The values of atoms and factors.
 use Rattle.std.proofs.Common.{◌≡◌, List, Option, Some, None, refl, sym, ap, ◌∙◌, rules, if◌then◌else◌, Ok, Err}
-use Rattle.mp_syntax.specs.declared.terminal.Sign.{Sign}
+use Rattle.mp_syntax.specs.declared.operator.Sign.{Sign}
 use Rattle.mp_syntax.specs.Syntax as s
 use Rattle.mp_file.specs.declared.Atom.{Atom}
 use Rattle.mp_file.specs.declared.Atom.TheVariants.{Paren, Least, Greatest}

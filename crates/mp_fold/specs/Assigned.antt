@@ -1,6 +1,6 @@
 -- What an assignment does.
 use Rattle.std.specs.Prelude.{◌≡◌, Some, Result, Ok, Err}
-use Rattle.mp_syntax.specs.Syntax.{Statement, Declares, Assigns, Model}
+use Rattle.mp_statements.specs.Statements.{Statement, Declares, Assigns, Model}
 use Rattle.mp_values.specs.Table.{Table, with_value}
 use Rattle.mp_values.specs.Folded.{Folded, folded, ◌>>=◌}
 use Rattle.mp_fold.specs.declared.fault.FoldFault.{FoldFault}

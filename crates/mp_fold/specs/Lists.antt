@@ -1,9 +1,9 @@
 -- The values of sums and products as lists, from left to right.
 use Rattle.std.specs.Prelude.{ℕ, List, [], ◌∷◌, Option, Some, None, Ok}
-use Rattle.mp_syntax.specs.declared.terminal.Sign.{Sign}
-use Rattle.mp_syntax.specs.declared.terminal.Sign.TheVariants as sign
-use Rattle.mp_syntax.specs.declared.terminal.Scale.{Scale}
-use Rattle.mp_syntax.specs.declared.terminal.Scale.TheVariants as scale
+use Rattle.mp_syntax.specs.declared.operator.Sign.{Sign}
+use Rattle.mp_syntax.specs.declared.operator.Sign.TheVariants as sign
+use Rattle.mp_syntax.specs.declared.operator.Scale.{Scale}
+use Rattle.mp_syntax.specs.declared.operator.Scale.TheVariants as scale
 use Rattle.mp_syntax.specs.Syntax.{Term, Factor}
 use Rattle.mp_rational.specs.Fraction.{Fraction, whole}
 use Rattle.mp_frac.specs.Stated.{sum_outcome, difference_outcome, product_outcome, quotient_outcome, power_outcome}

@@ -1,6 +1,6 @@
 // The values of literals and of parameters.
 ghost use Rattle.std.specs.Prelude.{◌≡◌, ◌≤◌, ◌^◌, pos};
-ghost use Rattle.mp_syntax.specs.Literals.{decimal_of};
+ghost use Rattle.mp_tokens.specs.Literals.{decimal_of};
 ghost use Rattle.mp_rational.specs.Fraction.{ratio_of};
 ghost use Rattle.mp_frac.specs.Value.{value_of};
 ghost use Rattle.mp_values.specs.Constant.{decimal_value};

@@ -1,9 +1,10 @@
 -- The reading functions as the loops of the code read: the whole list, with what was found first in front.
 use Rattle.std.proofs.Common.{◌≡◌, ℕ, List, [], ◌∷◌, Result, Ok, Err, refl, ap}
-use Rattle.mp_syntax.specs.declared.terminal.Terminal.TheVariants as k
-use Rattle.mp_syntax.specs.declared.terminal.NameKind.{NameKind}
-use Rattle.mp_syntax.specs.Tokens.{Tok}
-use Rattle.mp_syntax.specs.Syntax.{Named, Item, Statement, Declares, Model}
+use Rattle.mp_tokens.specs.declared.terminal.Terminal.TheVariants as k
+use Rattle.mp_statements.specs.declared.kind.NameKind.{NameKind}
+use Rattle.mp_tokens.specs.Tokens.{Tok}
+use Rattle.mp_syntax.specs.Syntax.{Named}
+use Rattle.mp_statements.specs.Statements.{Item, Statement, Declares, Model}
 use Rattle.mp_reading.specs.Reading.{Read, ◌>>=◌, all_at, token_at, name_at, name_begins, declares_at, item_at, item_begins, model_at, statement_at, any_begins, file_read}
 use Rattle.mp_gram_expr.specs.Gives.{with_front}
 

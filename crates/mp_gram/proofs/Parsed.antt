@@ -1,8 +1,8 @@
 -- From what the code's functions give to the public clauses.
 use Rattle.std.proofs.Common.{◌≡◌, ◌+◌, ◌-◌, ◌≤◌, List, length, drop, Ok, Err, sym, ap, ◌∙◌, arith}
 use Rattle.std.proofs.lemmas.List.{length-drop}
-use Rattle.mp_syntax.specs.Tokens.{Tok}
-use Rattle.mp_syntax.specs.Syntax.{Statement}
+use Rattle.mp_tokens.specs.Tokens.{Tok}
+use Rattle.mp_statements.specs.Statements.{Statement}
 use Rattle.mp_syntax.specs.Grammar.{Reads}
 use Rattle.mp_lex.specs.declared.tokens.Token.{Token}
 use Rattle.mp_reading.specs.Reading.{file_read}

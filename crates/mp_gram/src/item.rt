@@ -7,7 +7,7 @@ ghost use Rattle.mp_gram_expr.specs.Gives.{Gives, GivesOption, with_front};
 
 use mp_file::{Item, Term};
 use mp_gram_expr::{Rest, Wrong, expect, expr_of, next_is};
-use mp_syntax::Terminal;
+use mp_tokens::Terminal;
 use sqlite_items::Items;
 use std::alloc::Global;
 

@@ -1,6 +1,6 @@
 // A whole file.
 ghost use Rattle.std.specs.Prelude.{◌≡◌, ◌-◌, ◌<◌, ◌≤◌, ◌^◌, List, length, drop, Ok, Err, IfOk};
-ghost use Rattle.mp_syntax.specs.Syntax.{Statement};
+ghost use Rattle.mp_statements.specs.Statements.{Statement};
 ghost use Rattle.mp_syntax.specs.Grammar.{Reads};
 ghost use Rattle.mp_file.specs.Shown.{file_of};
 ghost use Rattle.mp_reading.specs.Reading.{file_read};

@@ -11,7 +11,8 @@ use crate::item::more_items;
 use mp_file::{Named, Statement};
 use mp_gram_expr::{Rest, Wrong, expect, expr_of, wrong_at};
 use mp_lex::Token;
-use mp_syntax::{NameKind, Terminal};
+use mp_statements::NameKind;
+use mp_tokens::Terminal;
 use sqlite_items::Items;
 use std::alloc::Global;
 

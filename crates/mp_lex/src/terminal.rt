@@ -1,10 +1,10 @@
 // What a token is to the grammar.
 ghost use Rattle.std.specs.Prelude.{◌≡◌, map};
-ghost use Rattle.mp_syntax.specs.Terminals.{is_one_of, is_reserved, terminal_of, word_of};
+ghost use Rattle.mp_tokens.specs.Terminals.{is_one_of, is_reserved, terminal_of, word_of};
 ghost use Rattle.mp_lex.specs.Shown.{tok_of};
 
 use crate::tokens::Token;
-use mp_syntax::{Terminal, TokenKind};
+use mp_tokens::{Terminal, TokenKind};
 
 // The reserved words, by their number of bytes.
 const OF_2: [&[u8]; 1] = [b"ln"];
@@ -43,7 +43,7 @@ const OF_24: [&[u8]; 1] = [b"perfect_foresight_solver"];
 impl Token<'_> {
     /// What this token is to the grammar: its kind, or for a word the terminal that the table of reserved words says
     /// (Dynare manual, "The model file"; the profile is modpath's own).
-    #[tactic(auto, unfolding(mp_syntax::specs::Terminals::terminal_of))]
+    #[tactic(auto, unfolding(mp_tokens::specs::Terminals::terminal_of))]
     pub fn terminal(&self) -> Terminal
         ensures { result ≡ terminal_of (tok_of self.now) }
     {

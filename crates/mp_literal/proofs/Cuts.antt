@@ -1,8 +1,8 @@
 -- The parts of a literal are cut from it.
 use Rattle.std.proofs.Common.{◌≡◌, ℕ, suc, ◌+◌, List, take, drop, sym, ap, ◌∙◌, arith}
 use Rattle.std.proofs.lemmas.List.{drop-drop, drop-take}
-use Rattle.mp_syntax.specs.Tokens.{digits_length, fraction_length, mantissa_length}
-use Rattle.mp_syntax.specs.Literals.{decimal_of, fraction_digits, whole_digits}
+use Rattle.mp_tokens.specs.Tokens.{digits_length, fraction_length, mantissa_length}
+use Rattle.mp_tokens.specs.Literals.{decimal_of, fraction_digits, whole_digits}
 use Rattle.mp_literal.specs.Accepted.{decimal_of_parts}
 
 -- where the digits before the point end, what follows, and how much of it is the point and its digits

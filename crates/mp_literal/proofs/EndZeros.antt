@@ -2,7 +2,7 @@
 use Rattle.std.proofs.Common.{◌≡◌, ℕ, ◌+◌, ◌-◌, ◌<◌, ◌≤◌, List, [], ◌∷◌, ◌++◌, length, get_or, take, true, false, cond, ◌==◌, refl, sym, ap, ◌∙◌, arith, length-append, append-nil}
 use Rattle.std.proofs.lemmas.Bool.Decides.{nat_tests}
 use Rattle.std.proofs.lemmas.List.{take_more}
-use Rattle.mp_syntax.specs.Literals.{kept, without_end_zeros}
+use Rattle.mp_tokens.specs.Literals.{kept, without_end_zeros}
 use Rattle.mp_literal.specs.Accepted.{end_zeros}
 
 -- a digit before some is kept

@@ -1,7 +1,7 @@
 -- The number of the digits that are kept.
 use Rattle.std.proofs.Common.{◌≡◌, ℕ, ◌+◌, ◌-◌, ◌≤◌, pos, ◌+ℤ◌, ◌-ℤ◌, List, ◌++◌, fold, length, None, sym, ap, ◌∙◌, arith}
 use Rattle.std.proofs.lemmas.List.Sums.{fold-append}
-use Rattle.mp_syntax.specs.Literals.{decimal_by, number_of, signed_number, with_digit, without_end_zeros}
+use Rattle.mp_tokens.specs.Literals.{decimal_by, number_of, signed_number, with_digit, without_end_zeros}
 use Rattle.mp_literal.specs.Accepted.{accepted, decimal_of_parts, up_to_limit}
 use Rattle.mp_literal.proofs.EndZeros.{zeros-gone}
 use Rattle.mp_literal.proofs.Limits.{fold-ge, limit-None}

@@ -4,7 +4,7 @@ use Rattle.std.proofs.lemmas.Bool.Decides.{nat_tests}
 use Rattle.std.proofs.lemmas.Grind.{pow_more}
 use Rattle.std.proofs.lemmas.List.{drop_more}
 use Rattle.std.proofs.Math.Nat.{one-le-pow, mul-le-mul_left}
-use Rattle.mp_syntax.specs.Literals.{with_digit}
+use Rattle.mp_tokens.specs.Literals.{with_digit}
 use Rattle.mp_literal.specs.Accepted.{up_to_limit}
 
 pub within_limit : (n : ℕ) → n ≤ 10 ^ 37 → Some n ≡ up_to_limit n

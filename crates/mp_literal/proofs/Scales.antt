@@ -3,7 +3,7 @@ use Rattle.std.proofs.Common.{◌≡◌, ℕ, zero, suc, ◌+◌, ◌-◌, ◌*�
 use Rattle.std.proofs.lemmas.Int.{ints}
 use Rattle.std.proofs.lemmas.Bool.Decides.{nat_tests}
 use Rattle.std.proofs.Math.Nat.{pow-le-pow_right, mul-le-mul_left}
-use Rattle.mp_syntax.specs.Literals.{Decimal, decimal_by}
+use Rattle.mp_tokens.specs.Literals.{Decimal, decimal_by}
 use Rattle.mp_literal.specs.Accepted.{accepted, up_to_limit}
 use Rattle.mp_literal.proofs.Limits.{beyond_limit, limit-None, times_power-ge}
 

@@ -1,7 +1,7 @@
 -- What an accepted number tells.
 use Rattle.std.proofs.Common.{◌≡◌, Bool, true, false, cond, Option, Some, None, option_map, IsSome, IsTrue, IfSome, ◌↔◌, refl, ap}
-use Rattle.mp_syntax.specs.Literals as spec
-use Rattle.mp_syntax.specs.Literals.{is_in_range}
+use Rattle.mp_tokens.specs.Literals as spec
+use Rattle.mp_tokens.specs.Literals.{is_in_range}
 use Rattle.mp_literal.specs.declared.value.Decimal.{Decimal}
 use Rattle.mp_literal.specs.Accepted.{accepted}
 use Rattle.mp_literal.specs.Shown.{shown}

@@ -1,6 +1,6 @@
 -- What is accepted.
 use Rattle.std.specs.Prelude.{ℕ, ◌-◌, ◌^◌, ◌+ℤ◌, ◌-ℤ◌, pos, List, ◌++◌, length, nat_le, if◌then◌else◌, Option, Some, None}
-use Rattle.mp_syntax.specs.Literals.{Decimal, decimal_by, is_in_range, number_of, signed_number, without_end_zeros}
+use Rattle.mp_tokens.specs.Literals.{Decimal, decimal_by, is_in_range, number_of, signed_number, without_end_zeros}
 
 -- a number that is at most the greatest m
 abbrev pub up_to_limit : ℕ → Option ℕ

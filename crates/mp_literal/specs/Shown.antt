@@ -1,5 +1,5 @@
 -- A number as the definitions see it.
-use Rattle.mp_syntax.specs.Literals as spec
+use Rattle.mp_tokens.specs.Literals as spec
 use Rattle.mp_literal.specs.declared.value.Decimal.{Decimal}
 
 abbrev pub shown : Decimal → spec.Decimal

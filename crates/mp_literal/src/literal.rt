@@ -1,6 +1,6 @@
 // The number that a literal writes.
 ghost use Rattle.std.specs.Prelude.{◌≡◌, ◌≤◌, ◌^◌, ◌↔◌, IfSome, IsSome, IsTrue, option_map};
-ghost use Rattle.mp_syntax.specs.Literals.{decimal_of, is_in_range};
+ghost use Rattle.mp_tokens.specs.Literals.{decimal_of, is_in_range};
 ghost use Rattle.mp_literal.specs.Accepted.{accepted, decimal_of_parts};
 ghost use Rattle.mp_literal.specs.Shown.{shown};
 

@@ -1,6 +1,6 @@
 // Numbers of digits, up to the limit.
 ghost use Rattle.std.specs.Prelude.{◌≡◌, ◌*◌, ◌<◌, ◌≤◌, ◌^◌, fold};
-ghost use Rattle.mp_syntax.specs.Literals.{with_digit};
+ghost use Rattle.mp_tokens.specs.Literals.{with_digit};
 ghost use Rattle.mp_literal.specs.Accepted.{up_to_limit};
 
 // The greatest m.

@@ -1,7 +1,7 @@
 // The parts of a literal.
 ghost use Rattle.std.specs.Prelude.{◌≡◌, ◌+◌, ◌<◌, ◌≤◌, ◌^◌, ◌++◌, suc, pos, neg_ℤ, drop, length, if◌then◌else◌};
-ghost use Rattle.mp_syntax.specs.Tokens.{digits_length, fraction_length, mantissa_length};
-ghost use Rattle.mp_syntax.specs.Literals.{fraction_digits, number_of, signed_number, whole_digits, without_end_zeros};
+ghost use Rattle.mp_tokens.specs.Tokens.{digits_length, fraction_length, mantissa_length};
+ghost use Rattle.mp_tokens.specs.Literals.{fraction_digits, number_of, signed_number, whole_digits, without_end_zeros};
 
 // The digits before and after the point, and what stands after the letter of the exponent.
 #[derive(Clone, Copy)]

@@ -1,6 +1,6 @@
 // A number times a power of ten.
 ghost use Rattle.std.specs.Prelude.{◌≡◌, ◌<◌, ◌≤◌, ◌^◌, ◌+ℤ◌, ◌-ℤ◌, pos, option_map};
-ghost use Rattle.mp_syntax.specs.Literals.{decimal_by, signed_number};
+ghost use Rattle.mp_tokens.specs.Literals.{decimal_by, signed_number};
 ghost use Rattle.mp_literal.specs.Accepted.{accepted};
 ghost use Rattle.mp_literal.specs.Shown.{shown};
 

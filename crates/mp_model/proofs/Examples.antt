@@ -6,8 +6,8 @@ use Rattle.std.proofs.lemmas.Bool.{false_from_ne_true}
 use Rattle.std.proofs.lemmas.Nat.Gcd.{IsGcd-from_mod, IsGcd-from_zero}
 use Rattle.mp_rational.specs.Fraction.{Fraction, add, mul, div, is_zero, ratio_of}
 use Rattle.mp_rational.specs.Lowest.{numerator, denominator}
-use Rattle.mp_syntax.specs.Literals.{decimal_of}
-use Rattle.mp_syntax.specs.Parts.{equations_of}
+use Rattle.mp_tokens.specs.Literals.{decimal_of}
+use Rattle.mp_statements.specs.Parts.{equations_of}
 use Rattle.mp_semantics.specs.Term.{endogenous, exogenous, number, variable, plus, times, power_of}
 use Rattle.mp_semantics.specs.Value.{of_one, of_both}
 use Rattle.mp_spelling.specs.Printed.{decimal_digits, signed_digits, printed_fraction, names_line, model_block, names_of, printed, printed_model}

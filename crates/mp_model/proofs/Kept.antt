@@ -1,7 +1,7 @@
 -- What the text of a model keeps.
 use Rattle.std.proofs.Common.{◌≡◌, List, Some, refl, ◌∙◌, subst}
-use Rattle.mp_syntax.specs.Tokens.{Tok}
-use Rattle.mp_syntax.specs.Syntax.{Statement}
+use Rattle.mp_tokens.specs.Tokens.{Tok}
+use Rattle.mp_statements.specs.Statements.{Statement}
 use Rattle.mp_syntax.specs.Grammar.{Reads}
 use Rattle.mp_semantics.specs.Model.{Model}
 use Rattle.mp_semantics.specs.Solves.{HaveSameSolutions}

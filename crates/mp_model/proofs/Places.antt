@@ -2,11 +2,12 @@
 use Rattle.std.proofs.Common.{◌≡◌, List, [], ◌∷◌, ◌++◌, map, cond, fold, Option, Some, None, option_map, refl, sym, ap, ◌∙◌}
 use Rattle.std.proofs.lemmas.List.{map-append}
 use Rattle.mp_rational.specs.Fraction.{add, sub, mul, div, power, less}
-use Rattle.mp_syntax.specs.declared.terminal.NameKind.{NameKind}
-use Rattle.mp_syntax.specs.declared.terminal.NameKind.TheVariants as kind
-use Rattle.mp_syntax.specs.Syntax.{Named, Expr, Number, Variable, Plus, Minus, Times, Over, Signed, Power, Paren, Min, Max, Item, Statement, Declares, Assigns, Model}
-use Rattle.mp_syntax.specs.Parts.{is_kind, names_in, items_in, equations_of}
-use Rattle.mp_syntax.specs.Parts as parts
+use Rattle.mp_statements.specs.declared.kind.NameKind.{NameKind}
+use Rattle.mp_statements.specs.declared.kind.NameKind.TheVariants as kind
+use Rattle.mp_syntax.specs.Syntax.{Named, Expr, Number, Variable, Plus, Minus, Times, Over, Signed, Power, Paren, Min, Max}
+use Rattle.mp_statements.specs.Statements.{Item, Statement, Declares, Assigns, Model}
+use Rattle.mp_statements.specs.Parts.{is_kind, names_in, items_in, equations_of}
+use Rattle.mp_statements.specs.Parts as parts
 use Rattle.mp_semantics.specs.Term.{plus, minus, times, quotient, power_of, least, greatest}
 use Rattle.mp_semantics.specs.Value.{of_one, of_both}
 use Rattle.mp_semantics.specs.Model as m

@@ -1,8 +1,8 @@
 -- The text of the example of values, read as a file.
 use Rattle.std.proofs.Common.{◌≡◌, List, [], Result, Ok, Err, refl}
-use Rattle.mp_syntax.specs.Tokens.{Tok, Fault, comment_length, begun_at, tokens_from, tokens}
-use Rattle.mp_syntax.specs.Terminals.{is_reserved, terminal_of}
-use Rattle.mp_syntax.specs.Syntax.{Statement}
+use Rattle.mp_tokens.specs.Tokens.{Tok, Fault, comment_length, begun_at, tokens_from, tokens}
+use Rattle.mp_tokens.specs.Terminals.{is_reserved, terminal_of}
+use Rattle.mp_statements.specs.Statements.{Statement}
 use Rattle.mp_syntax.specs.Grammar.{Reads}
 use Rattle.mp_reading.specs.Reading.{token_at, digits_at, shift_at, shifted_at, variable_at, paren_at, both_at, min_at, max_at, atom_at, sign_at, caret_at, power_at, signed_at, more_at, star_at, factor_at, product_at, plus_at, term_at, sum_at, expr_at, inside, right_at, alone_at, item_at, item_begins, name_at, name_begins, declares_at, assigns_at, model_at, statement_at, any_begins, file_read}
 use Rattle.mp_model.specs.Example.{values_text, values_file}

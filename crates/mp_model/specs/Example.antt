@@ -1,9 +1,10 @@
 -- Two small files, and the models that they mean.
 use Rattle.std.specs.Prelude.{ℕ, pos, negsuc, List, [], ◌∷◌, Some, None, codes}
 use Rattle.mp_rational.specs.Fraction.{ratio_of}
-use Rattle.mp_syntax.specs.declared.terminal.Sign.TheVariants as sign
-use Rattle.mp_syntax.specs.declared.terminal.NameKind.TheVariants as kind
-use Rattle.mp_syntax.specs.Syntax.{Shift, Named, Expr, Number, Variable, Plus, Times, Over, Power, Paren, Statement, Declares, Assigns, Model}
+use Rattle.mp_syntax.specs.declared.operator.Sign.TheVariants as sign
+use Rattle.mp_statements.specs.declared.kind.NameKind.TheVariants as kind
+use Rattle.mp_syntax.specs.Syntax.{Shift, Named, Expr, Number, Variable, Plus, Times, Over, Power, Paren}
+use Rattle.mp_statements.specs.Statements.{Statement, Declares, Assigns, Model}
 use Rattle.mp_semantics.specs.Term.{endogenous, exogenous, number, variable, plus, times, power_of}
 use Rattle.mp_semantics.specs.Model as m
 

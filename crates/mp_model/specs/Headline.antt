@@ -1,7 +1,7 @@
 -- A path solves what is written exactly when it solves what was read.
 use Rattle.std.specs.Prelude.{◌≡◌, ℕ, List, Ok, Some}
-use Rattle.mp_syntax.specs.Tokens.{Tok, tokens}
-use Rattle.mp_syntax.specs.Syntax.{Statement}
+use Rattle.mp_tokens.specs.Tokens.{Tok, tokens}
+use Rattle.mp_statements.specs.Statements.{Statement}
 use Rattle.mp_syntax.specs.Grammar.{Reads}
 use Rattle.mp_semantics.specs.Model.{Model}
 use Rattle.mp_semantics.specs.Solves.{HaveSameSolutions}

@@ -3,8 +3,8 @@
 #![tactic(auto)]
 
 ghost use Rattle.std.specs.Prelude.{◌≡◌, ◌↔◌, ℕ, ◌≤◌, List, [], ◌∷◌, Some, Ok, pos};
-ghost use Rattle.mp_syntax.specs.Tokens.{Tok, tokens};
-ghost use Rattle.mp_syntax.specs.Syntax.{Statement};
+ghost use Rattle.mp_tokens.specs.Tokens.{Tok, tokens};
+ghost use Rattle.mp_statements.specs.Statements.{Statement};
 ghost use Rattle.mp_syntax.specs.Grammar.{Reads};
 ghost use Rattle.mp_declared.specs.Heights.{greatest_height};
 ghost use Rattle.mp_rational.specs.Fraction.{mul, ratio_of};

@@ -2,8 +2,8 @@
 use Rattle.std.specs.Prelude.{ℕ, List, [], ◌∷◌, ◌++◌, if◌then◌else◌, Option, Some, None}
 use Rattle.std.specs.List.{list_any}
 use Rattle.std.specs.Str.{bytes_eq}
-use Rattle.mp_syntax.specs.declared.terminal.NameKind.{NameKind}
-use Rattle.mp_syntax.specs.declared.terminal.NameKind.TheVariants as kind
+use Rattle.mp_statements.specs.declared.kind.NameKind.{NameKind}
+use Rattle.mp_statements.specs.declared.kind.NameKind.TheVariants as kind
 use Rattle.mp_values.specs.Names.{Names}
 
 abbrev pub no_names : Names

@@ -7,7 +7,7 @@ ghost use Rattle.mp_names.specs.Numbers.{id_of, term_by};
 
 use crate::list::NameList;
 use mp_base::NoMemory;
-use mp_syntax::NameKind;
+use mp_statements::NameKind;
 use std::alloc::Global;
 use std::marker::Model;
 

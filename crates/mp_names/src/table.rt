@@ -8,7 +8,7 @@ use crate::names::Names;
 use indexmap::IndexMap;
 use mp_base::NoMemory;
 use mp_frac::Frac;
-use mp_syntax::NameKind;
+use mp_statements::NameKind;
 use std::alloc::Global;
 use std::marker::Model;
 

@@ -3,7 +3,7 @@
 use crate::{NameId, Names, Table};
 use mp_base::NoMemory;
 use mp_frac::Frac;
-use mp_syntax::NameKind;
+use mp_statements::NameKind;
 use std::alloc::Global;
 use std::test::Fail;
 

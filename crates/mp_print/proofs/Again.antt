@@ -1,7 +1,7 @@
 -- What is the spelling of a file reads back.
 use Rattle.std.proofs.Common.{◌≡◌, ℕ, List, Result, Ok, Err, sym, subst}
 use Rattle.std.specs.Result.{IfOk}
-use Rattle.mp_syntax.specs.Syntax.{Statement}
+use Rattle.mp_statements.specs.Statements.{Statement}
 use Rattle.mp_spelling.specs.Spelled.{spelled_file}
 use Rattle.mp_spelling.specs.Written.{IsFile}
 use Rattle.mp_spelling.specs.Back.{ReadsBack}

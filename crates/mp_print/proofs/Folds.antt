@@ -1,9 +1,9 @@
 -- A product is its first factor and the others, a sum its first term and the others.
 use Rattle.std.proofs.Common.{◌≡◌, ℕ, List, [], ◌∷◌, ◌++◌, true, false, codes, refl, sym, ap, ◌∙◌, append-nil, append_assoc}
-use Rattle.mp_syntax.specs.declared.terminal.Sign.{Sign}
-use Rattle.mp_syntax.specs.declared.terminal.Sign.TheVariants as sign
-use Rattle.mp_syntax.specs.declared.terminal.Scale.{Scale}
-use Rattle.mp_syntax.specs.declared.terminal.Scale.TheVariants as scale
+use Rattle.mp_syntax.specs.declared.operator.Sign.{Sign}
+use Rattle.mp_syntax.specs.declared.operator.Sign.TheVariants as sign
+use Rattle.mp_syntax.specs.declared.operator.Scale.{Scale}
+use Rattle.mp_syntax.specs.declared.operator.Scale.TheVariants as scale
 use Rattle.mp_syntax.specs.Syntax.{Expr, Min, Max, Term, Factor, joined, scaled, with_terms, with_factors}
 use Rattle.mp_spelling.specs.Spelled.{sign_byte, spelled}
 use Rattle.mp_file.specs.Shown.{product_of, sum_of}

@@ -1,8 +1,8 @@
 -- Parts of the text of a file as it was read.
 use Rattle.std.specs.Prelude.{ℕ, List, [], ◌∷◌, ◌++◌, Bool, true, false, codes}
-use Rattle.mp_syntax.specs.declared.terminal.Sign.{Sign}
-use Rattle.mp_syntax.specs.declared.terminal.Scale.{Scale}
-use Rattle.mp_syntax.specs.declared.terminal.Scale.TheVariants as scale
+use Rattle.mp_syntax.specs.declared.operator.Sign.{Sign}
+use Rattle.mp_syntax.specs.declared.operator.Scale.{Scale}
+use Rattle.mp_syntax.specs.declared.operator.Scale.TheVariants as scale
 use Rattle.mp_syntax.specs.Syntax.{Named, Expr, Term, Factor}
 use Rattle.mp_spelling.specs.Spelled.{sign_byte, spelled}
 

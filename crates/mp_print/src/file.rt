@@ -10,7 +10,7 @@ ghost use Rattle.mp_print.specs.Parts.{spelled_name, spelled_value};
 use crate::expression::put_sum;
 use mp_base::{Bytes, NoMemory};
 use mp_file::{File, Item, Named, Statement, Term};
-use mp_syntax::NameKind;
+use mp_statements::NameKind;
 use sqlite_items::Items;
 use std::alloc::Global;
 

@@ -2,7 +2,8 @@
 
 use crate::print;
 use mp_file::{Atom, Factor, File, Item, Named, Shift, Statement, Term};
-use mp_syntax::{NameKind, Scale, Sign};
+use mp_statements::NameKind;
+use mp_syntax::{Scale, Sign};
 use sqlite_items::Items;
 use std::alloc::{AllocError, Global};
 use std::test::Fail;

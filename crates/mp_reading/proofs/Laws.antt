@@ -1,11 +1,11 @@
 -- Laws of every reading, and of a repetition once for all.
 use Rattle.std.proofs.Common.{◌≡◌, ℕ, zero, suc, ◌+◌, ◌<◌, ◌≤◌, List, [], ◌∷◌, length, Bool, true, false, cond, Option, Some, None, Result, Ok, Err, refl, sym, ap, ◌∙◌, subst, arith}
-use Rattle.mp_syntax.specs.declared.terminal.Terminal.{Terminal}
-use Rattle.mp_syntax.specs.declared.terminal.Terminal.TheVariants as k
-use Rattle.mp_syntax.specs.declared.terminal.Sign.{Sign}
-use Rattle.mp_syntax.specs.declared.terminal.Sign.TheVariants as sign
-use Rattle.mp_syntax.specs.Tokens.{Tok}
-use Rattle.mp_syntax.specs.Terminals.{terminal_of}
+use Rattle.mp_tokens.specs.declared.terminal.Terminal.{Terminal}
+use Rattle.mp_tokens.specs.declared.terminal.Terminal.TheVariants as k
+use Rattle.mp_syntax.specs.declared.operator.Sign.{Sign}
+use Rattle.mp_syntax.specs.declared.operator.Sign.TheVariants as sign
+use Rattle.mp_tokens.specs.Tokens.{Tok}
+use Rattle.mp_tokens.specs.Terminals.{terminal_of}
 use Rattle.mp_syntax.specs.Syntax.{Shift}
 use Rattle.mp_syntax.specs.Grammar as g
 use Rattle.mp_syntax.specs.Grammar.{Many, ShiftReads}

@@ -1,16 +1,17 @@
 -- Reading from left to right, with one token seen ahead: each function gives a value and the tokens after it, or the tokens from the wrong one on.
 use Rattle.std.specs.Prelude.{ℕ, zero, suc, ◌+◌, List, [], ◌∷◌, length, drop, Bool, true, false, if◌then◌else◌, Option, Some, None, Result, Ok, Err}
-use Rattle.mp_syntax.specs.declared.terminal.Terminal.{Terminal}
-use Rattle.mp_syntax.specs.declared.terminal.Terminal.TheVariants as t
-use Rattle.mp_syntax.specs.declared.terminal.Sign.{Sign}
-use Rattle.mp_syntax.specs.declared.terminal.Sign.TheVariants as sign
-use Rattle.mp_syntax.specs.declared.terminal.Scale.{Scale}
-use Rattle.mp_syntax.specs.declared.terminal.Scale.TheVariants as scale
-use Rattle.mp_syntax.specs.declared.terminal.NameKind.{NameKind}
-use Rattle.mp_syntax.specs.declared.terminal.NameKind.TheVariants as kind
-use Rattle.mp_syntax.specs.Tokens.{Tok}
-use Rattle.mp_syntax.specs.Terminals.{terminal_of}
-use Rattle.mp_syntax.specs.Syntax.{Shift, Named, Expr, Number, Variable, Power, Paren, Min, Max, Term, Factor, with_terms, with_factors, signed, Item, Statement, Declares, Assigns, Model}
+use Rattle.mp_tokens.specs.declared.terminal.Terminal.{Terminal}
+use Rattle.mp_tokens.specs.declared.terminal.Terminal.TheVariants as t
+use Rattle.mp_syntax.specs.declared.operator.Sign.{Sign}
+use Rattle.mp_syntax.specs.declared.operator.Sign.TheVariants as sign
+use Rattle.mp_syntax.specs.declared.operator.Scale.{Scale}
+use Rattle.mp_syntax.specs.declared.operator.Scale.TheVariants as scale
+use Rattle.mp_statements.specs.declared.kind.NameKind.{NameKind}
+use Rattle.mp_statements.specs.declared.kind.NameKind.TheVariants as kind
+use Rattle.mp_tokens.specs.Tokens.{Tok}
+use Rattle.mp_tokens.specs.Terminals.{terminal_of}
+use Rattle.mp_syntax.specs.Syntax.{Shift, Named, Expr, Number, Variable, Power, Paren, Min, Max, Term, Factor, with_terms, with_factors, signed}
+use Rattle.mp_statements.specs.Statements.{Item, Statement, Declares, Assigns, Model}
 use Rattle.mp_syntax.specs.Grammar.{named}
 
 -- a value and the tokens after it, or the tokens from the wrong one on

@@ -3,8 +3,8 @@ use Rattle.std.specs.Prelude.{◌≡◌, ℕ, List, Option, IfSome, Ok}
 use Rattle.mp_base.specs.declared.outcome.Outcome.{Outcome}
 use Rattle.mp_base.specs.declared.job.Job.{Job}
 use Rattle.mp_base.specs.declared.job.Job.TheVariants as j
-use Rattle.mp_syntax.specs.Tokens.{Tok, tokens}
-use Rattle.mp_syntax.specs.Syntax.{Statement}
+use Rattle.mp_tokens.specs.Tokens.{Tok, tokens}
+use Rattle.mp_statements.specs.Statements.{Statement}
 use Rattle.mp_syntax.specs.Grammar.{Reads}
 use Rattle.mp_model.specs.Headline.{KeepsSolutions}
 use Rattle.mp_outside.specs.Outside.{Held, Listing, gained}

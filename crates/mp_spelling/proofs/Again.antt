@@ -1,12 +1,12 @@
 -- The tokens of an expression's spelling read as it is, but for places.
 use Rattle.std.proofs.Common.{◌≡◌, ℕ, zero, suc, ◌+◌, ◌<◌, ◌≤◌, List, [], ◌∷◌, ◌++◌, length, Bool, true, false, cond, nat_le, ◌==◌, Option, Some, None, refl, ap, ◌∙◌, subst, arith}
-use Rattle.mp_syntax.specs.declared.token.TokenKind.TheVariants as k
-use Rattle.mp_syntax.specs.declared.terminal.Sign.{Sign}
-use Rattle.mp_syntax.specs.declared.terminal.Sign.TheVariants as sign
-use Rattle.mp_syntax.specs.declared.terminal.Scale.{Scale}
-use Rattle.mp_syntax.specs.declared.terminal.Scale.TheVariants as scale
-use Rattle.mp_syntax.specs.Tokens.{Tok, digits_length, number_length}
-use Rattle.mp_syntax.specs.Terminals.{terminal_of}
+use Rattle.mp_tokens.specs.declared.token.TokenKind.TheVariants as k
+use Rattle.mp_syntax.specs.declared.operator.Sign.{Sign}
+use Rattle.mp_syntax.specs.declared.operator.Sign.TheVariants as sign
+use Rattle.mp_syntax.specs.declared.operator.Scale.{Scale}
+use Rattle.mp_syntax.specs.declared.operator.Scale.TheVariants as scale
+use Rattle.mp_tokens.specs.Tokens.{Tok, digits_length, number_length}
+use Rattle.mp_tokens.specs.Terminals.{terminal_of}
 use Rattle.mp_syntax.specs.Syntax.{Shift, Named, Expr, Number, Variable, Plus, Minus, Times, Over, Signed, Power, Paren, Min, Max, Term, Factor, joined, scaled, with_terms, with_factors}
 use Rattle.mp_syntax.specs.Grammar as g
 use Rattle.mp_syntax.specs.Grammar.{Is, Reading, Nothing, Many, SignReads, ShiftReads, AtomReads, PowerReads, FactorReads, TimesReads, ProductReads, PlusReads, SumReads, ExprReads}

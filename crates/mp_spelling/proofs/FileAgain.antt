@@ -1,11 +1,12 @@
 -- The tokens of a file's spelling read as the file, but for places.
 use Rattle.std.proofs.Common.{◌≡◌, ℕ, ◌+◌, List, [], ◌∷◌, length, map, Option, Some, None, refl, sym, ap, ◌∙◌, arith}
-use Rattle.mp_syntax.specs.declared.token.TokenKind.TheVariants as k
-use Rattle.mp_syntax.specs.declared.terminal.NameKind.{NameKind}
-use Rattle.mp_syntax.specs.declared.terminal.NameKind.TheVariants as kind
-use Rattle.mp_syntax.specs.Tokens.{Tok, tokens_from}
-use Rattle.mp_syntax.specs.Terminals.{terminal_of}
-use Rattle.mp_syntax.specs.Syntax.{Named, Expr, Item, Statement, Declares, Assigns, Model}
+use Rattle.mp_tokens.specs.declared.token.TokenKind.TheVariants as k
+use Rattle.mp_statements.specs.declared.kind.NameKind.{NameKind}
+use Rattle.mp_statements.specs.declared.kind.NameKind.TheVariants as kind
+use Rattle.mp_tokens.specs.Tokens.{Tok, tokens_from}
+use Rattle.mp_tokens.specs.Terminals.{terminal_of}
+use Rattle.mp_syntax.specs.Syntax.{Named, Expr}
+use Rattle.mp_statements.specs.Statements.{Item, Statement, Declares, Assigns, Model}
 use Rattle.mp_syntax.specs.Grammar as g
 use Rattle.mp_syntax.specs.Grammar.{Whole, Many, ItemReads, NameReads, StatementReads, Reads, kind_declared}
 use Rattle.mp_spelling.specs.Spelled.{kind_word, spelled_file}

@@ -5,9 +5,9 @@ use Rattle.std.proofs.lemmas.Bool.{and_parts}
 use Rattle.std.proofs.lemmas.Bool.Decides.{nat_tests}
 use Rattle.std.specs.Char.{is_ascii_digit}
 use Rattle.std.specs.List.{prefix_len, list_all}
-use Rattle.mp_syntax.specs.declared.token.TokenKind.{TokenKind}
-use Rattle.mp_syntax.specs.declared.token.TokenKind.TheVariants as k
-use Rattle.mp_syntax.specs.Tokens.{Token, Wrong, LongName, BadByte, is_blank, is_first, is_word, is_exponent, digits_length, fraction_length, mantissa_length, exponent_length, number_length, number_kind, token, name_at, number_at, begun_at}
+use Rattle.mp_tokens.specs.declared.token.TokenKind.{TokenKind}
+use Rattle.mp_tokens.specs.declared.token.TokenKind.TheVariants as k
+use Rattle.mp_tokens.specs.Tokens.{Token, Wrong, LongName, BadByte, is_blank, is_first, is_word, is_exponent, digits_length, fraction_length, mantissa_length, exponent_length, number_length, number_kind, token, name_at, number_at, begun_at}
 use Rattle.mp_spelling.specs.Written.{IsWord, IsLiteral, AreDigits}
 use Rattle.mp_spelling.proofs.Numbers.{NoMore, run-before, number-before, number-le, is_zero}
 use Rattle.mp_spelling.proofs.Pieces.{is_numeric, stops, IsOne}

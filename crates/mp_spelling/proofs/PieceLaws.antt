@@ -1,9 +1,9 @@
 -- The tokens of a text that is written piece by piece.
 use Rattle.std.proofs.Common.{◌≡◌, ℕ, suc, ◌+◌, ◌-◌, ◌≤◌, List, [], ◌∷◌, ◌++◌, length, true, Ok, refl, ap, ◌∙◌, arith, length-append}
 use Rattle.std.proofs.Math.Seq.{drop-append_seam}
-use Rattle.mp_syntax.specs.declared.token.TokenKind.{TokenKind}
-use Rattle.mp_syntax.specs.Tokens.{Tok, before, and_then, tokens_from}
-use Rattle.mp_syntax.proofs.TokenLaws.{tokens_from-inside, tokens_from-blank, tokens_from-begun}
+use Rattle.mp_tokens.specs.declared.token.TokenKind.{TokenKind}
+use Rattle.mp_tokens.specs.Tokens.{Tok, before, and_then, tokens_from}
+use Rattle.mp_tokens.proofs.TokenLaws.{tokens_from-inside, tokens_from-blank, tokens_from-begun}
 use Rattle.mp_spelling.proofs.Pieces.{Piece, Word, Blank, text_of, placed, stops, IsOne, Apart}
 
 word_first : (kind : TokenKind) (bytes rest : List ℕ) (at : ℕ) → IsOne kind bytes → stops kind rest ≡ true → tokens_from (bytes ++ rest) at 0 ≡ before (record { kind = kind; bytes = bytes; at = at } ∷ []) (tokens_from rest (at + length bytes) 0)

@@ -1,9 +1,9 @@
 -- A text that is written piece by piece.
 use Rattle.std.proofs.Common.{◌≡◌, ℕ, ◌+◌, List, [], ◌∷◌, ◌++◌, length, Bool, true, false, not, ◌||◌, ◌==◌}
 use Rattle.std.specs.Char.{is_ascii_digit}
-use Rattle.mp_syntax.specs.declared.token.TokenKind.{TokenKind}
-use Rattle.mp_syntax.specs.declared.token.TokenKind.TheVariants as k
-use Rattle.mp_syntax.specs.Tokens.{Tok, Token, is_blank, is_word, is_exponent, begun_at}
+use Rattle.mp_tokens.specs.declared.token.TokenKind.{TokenKind}
+use Rattle.mp_tokens.specs.declared.token.TokenKind.TheVariants as k
+use Rattle.mp_tokens.specs.Tokens.{Tok, Token, is_blank, is_word, is_exponent, begun_at}
 
 -- a word, which is to be a token, or one blank
 pub data Piece : Type 0 where

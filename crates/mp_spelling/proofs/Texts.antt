@@ -1,10 +1,11 @@
 -- The bytes of the pieces are the spelling.
 use Rattle.std.proofs.Common.{◌≡◌, List, [], ◌∷◌, ◌++◌, Option, Some, None, refl, sym, ap, ◌∙◌, append_assoc, codes}
 use Rattle.std.specs.List.{flat_map}
-use Rattle.mp_syntax.specs.declared.token.TokenKind.TheVariants as k
-use Rattle.mp_syntax.specs.declared.terminal.Sign.{Sign}
-use Rattle.mp_syntax.specs.declared.terminal.Sign.TheVariants as sign
-use Rattle.mp_syntax.specs.Syntax.{Shift, Named, Expr, Number, Variable, Plus, Minus, Times, Over, Signed, Power, Paren, Min, Max, Item, Statement, Declares, Assigns, Model}
+use Rattle.mp_tokens.specs.declared.token.TokenKind.TheVariants as k
+use Rattle.mp_syntax.specs.declared.operator.Sign.{Sign}
+use Rattle.mp_syntax.specs.declared.operator.Sign.TheVariants as sign
+use Rattle.mp_syntax.specs.Syntax.{Shift, Named, Expr, Number, Variable, Plus, Minus, Times, Over, Signed, Power, Paren, Min, Max}
+use Rattle.mp_statements.specs.Statements.{Item, Statement, Declares, Assigns, Model}
 use Rattle.mp_spelling.specs.Spelled.{sign_byte, sign_bytes, spelled_shift, spelled, spelled_right, spelled_item, kind_word, spelled_statement, spelled_file}
 use Rattle.mp_spelling.proofs.Pieces.{Piece, Word, text_of}
 use Rattle.mp_spelling.proofs.Words.{close_word, comma_word, star_word, slash_word, caret_word, sign_word, sign_words, shift_words, words, right_words, line_end, item_words, each_item, each_name, end_words, statement_words, file_words}

@@ -5,9 +5,9 @@ use Rattle.std.specs.List.{prefix_len, list_all}
 use Rattle.std.proofs.lemmas.Bool.Decides.{nat_tests}
 use Rattle.std.proofs.lemmas.List.{take-append-drop, length-take-le}
 use Rattle.std.proofs.lemmas.List.Folds.{length-prefix_len}
-use Rattle.mp_syntax.specs.declared.token.TokenKind.{TokenKind}
-use Rattle.mp_syntax.specs.declared.token.TokenKind.TheVariants as k
-use Rattle.mp_syntax.specs.Tokens.{Tok, Fault, Begun, Token, Comment, Wrong, LongName, BadByte, is_blank, is_first, is_word, begins, is_inside, digits_length, number_length, number_kind, comment_length, token, name_at, number_at, block_comment, symbol_of, symbol_at, begun_at, before, and_then, tokens_from, tokens}
+use Rattle.mp_tokens.specs.declared.token.TokenKind.{TokenKind}
+use Rattle.mp_tokens.specs.declared.token.TokenKind.TheVariants as k
+use Rattle.mp_tokens.specs.Tokens.{Tok, Fault, Begun, Token, Comment, Wrong, LongName, BadByte, is_blank, is_first, is_word, begins, is_inside, digits_length, number_length, number_kind, comment_length, token, name_at, number_at, block_comment, symbol_of, symbol_at, begun_at, before, and_then, tokens_from, tokens}
 use Rattle.mp_spelling.specs.Written.{IsWord, IsLiteral, AreDigits, Each}
 use Rattle.mp_spelling.proofs.Numbers.{number-within, number-le}
 

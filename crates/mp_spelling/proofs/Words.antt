@@ -1,10 +1,11 @@
 -- The pieces of a file's spelling, each before the pieces that follow.
 use Rattle.std.proofs.Common.{List, [], ◌∷◌, Option, Some, None, codes}
-use Rattle.mp_syntax.specs.declared.token.TokenKind.TheVariants as k
-use Rattle.mp_syntax.specs.declared.terminal.Sign.{Sign}
-use Rattle.mp_syntax.specs.declared.terminal.Sign.TheVariants as sign
-use Rattle.mp_syntax.specs.Tokens.{number_kind}
-use Rattle.mp_syntax.specs.Syntax.{Shift, Named, Expr, Number, Variable, Plus, Minus, Times, Over, Signed, Power, Paren, Min, Max, Item, Statement, Declares, Assigns, Model}
+use Rattle.mp_tokens.specs.declared.token.TokenKind.TheVariants as k
+use Rattle.mp_syntax.specs.declared.operator.Sign.{Sign}
+use Rattle.mp_syntax.specs.declared.operator.Sign.TheVariants as sign
+use Rattle.mp_tokens.specs.Tokens.{number_kind}
+use Rattle.mp_syntax.specs.Syntax.{Shift, Named, Expr, Number, Variable, Plus, Minus, Times, Over, Signed, Power, Paren, Min, Max}
+use Rattle.mp_statements.specs.Statements.{Item, Statement, Declares, Assigns, Model}
 use Rattle.mp_spelling.specs.Spelled.{kind_word}
 use Rattle.mp_spelling.proofs.Pieces.{Piece, Word, Blank}
 

@@ -2,17 +2,18 @@
 use Rattle.std.proofs.Common.{◌≡◌, ℕ, zero, suc, ◌≤◌, List, [], ◌∷◌, cond, Bool, true, false, Option, Some, None, nat_le, Ok, refl, subst, arith, codes}
 use Rattle.std.specs.Str.{bytes_eq}
 use Rattle.std.proofs.lemmas.Bool.Decides.{nat_tests}
-use Rattle.mp_syntax.specs.declared.token.TokenKind.{TokenKind}
-use Rattle.mp_syntax.specs.declared.token.TokenKind.TheVariants as k
-use Rattle.mp_syntax.specs.declared.terminal.Terminal.{Terminal}
-use Rattle.mp_syntax.specs.declared.terminal.Terminal.TheVariants as t
-use Rattle.mp_syntax.specs.declared.terminal.Sign.{Sign}
-use Rattle.mp_syntax.specs.declared.terminal.Sign.TheVariants as sign
-use Rattle.mp_syntax.specs.declared.terminal.Scale.{Scale}
-use Rattle.mp_syntax.specs.declared.terminal.Scale.TheVariants as scale
-use Rattle.mp_syntax.specs.Tokens.{Tok, tokens}
-use Rattle.mp_syntax.specs.Terminals.{terminal_by, terminal_of, word_of, is_reserved}
-use Rattle.mp_syntax.specs.Syntax.{Shift, Expr, Term, Factor, joined, scaled, with_terms, with_factors, signed, Statement}
+use Rattle.mp_tokens.specs.declared.token.TokenKind.{TokenKind}
+use Rattle.mp_tokens.specs.declared.token.TokenKind.TheVariants as k
+use Rattle.mp_tokens.specs.declared.terminal.Terminal.{Terminal}
+use Rattle.mp_tokens.specs.declared.terminal.Terminal.TheVariants as t
+use Rattle.mp_syntax.specs.declared.operator.Sign.{Sign}
+use Rattle.mp_syntax.specs.declared.operator.Sign.TheVariants as sign
+use Rattle.mp_syntax.specs.declared.operator.Scale.{Scale}
+use Rattle.mp_syntax.specs.declared.operator.Scale.TheVariants as scale
+use Rattle.mp_tokens.specs.Tokens.{Tok, tokens}
+use Rattle.mp_tokens.specs.Terminals.{terminal_by, terminal_of, word_of, is_reserved}
+use Rattle.mp_syntax.specs.Syntax.{Shift, Expr, Term, Factor, joined, scaled, with_terms, with_factors, signed}
+use Rattle.mp_statements.specs.Statements.{Statement}
 use Rattle.mp_syntax.specs.Grammar as g
 use Rattle.mp_syntax.specs.Grammar.{Is, Reading, Nothing, Many, SignReads, ShiftReads, AtomReads, PowerReads, FactorReads, TimesReads, ProductReads, PlusReads, SumReads, ExprReads, ItemReads, NameReads, StatementReads, Reads}
 use Rattle.mp_spelling.specs.Written.{IsName, IsLiteral, AreDigits, IsShift, level, Reaches, InForm, nest, IsExpression, IsItem, Each, IsNamed, IsStatement, IsFile}

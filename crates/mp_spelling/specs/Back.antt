@@ -1,7 +1,8 @@
 -- A text that reads back.
 use Rattle.std.specs.Prelude.{◌≡◌, ℕ, List, map, option_map, Ok}
-use Rattle.mp_syntax.specs.Tokens.{Tok, tokens}
-use Rattle.mp_syntax.specs.Syntax.{Named, Expr, Number, Variable, Plus, Minus, Times, Over, Signed, Power, Paren, Min, Max, Item, Statement, Declares, Assigns, Model}
+use Rattle.mp_tokens.specs.Tokens.{Tok, tokens}
+use Rattle.mp_syntax.specs.Syntax.{Named, Expr, Number, Variable, Plus, Minus, Times, Over, Signed, Power, Paren, Min, Max}
+use Rattle.mp_statements.specs.Statements.{Item, Statement, Declares, Assigns, Model}
 use Rattle.mp_syntax.specs.Grammar.{Reads}
 
 -- a name without its place

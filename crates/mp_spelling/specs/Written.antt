@@ -2,10 +2,11 @@
 use Rattle.std.specs.Prelude.{◌≡◌, ℕ, suc, ◌≤◌, ◌<◌, max, List, [], ◌∷◌, length, true, Option, Some, None, nat_le}
 use Rattle.std.specs.Char.{is_ascii_digit}
 use Rattle.std.specs.List.{list_all}
-use Rattle.mp_syntax.specs.declared.terminal.Terminal.TheVariants as t
-use Rattle.mp_syntax.specs.Tokens.{is_first, is_word, number_length}
-use Rattle.mp_syntax.specs.Terminals.{word_of}
-use Rattle.mp_syntax.specs.Syntax.{Shift, Named, Expr, Number, Variable, Plus, Minus, Times, Over, Signed, Power, Paren, Min, Max, Item, Statement, Declares, Assigns, Model}
+use Rattle.mp_tokens.specs.declared.terminal.Terminal.TheVariants as t
+use Rattle.mp_tokens.specs.Tokens.{is_first, is_word, number_length}
+use Rattle.mp_tokens.specs.Terminals.{word_of}
+use Rattle.mp_syntax.specs.Syntax.{Shift, Named, Expr, Number, Variable, Plus, Minus, Times, Over, Signed, Power, Paren, Min, Max}
+use Rattle.mp_statements.specs.Statements.{Item, Statement, Declares, Assigns, Model}
 
 -- a letter or an underscore, then at most 127 letters, digits and underscores
 abbrev pub IsWord : List ℕ → Type 0

@@ -4,15 +4,15 @@ use Rattle.std.specs.List.{find}
 use Rattle.std.specs.Option.{ForSome}
 use Rattle.std.specs.Str.{bytes_eq}
 use Rattle.std.proofs.lemmas.Bool.Decides.{nat_tests}
-use Rattle.mp_syntax.specs.declared.token.TokenKind.{TokenKind}
-use Rattle.mp_syntax.specs.declared.token.TokenKind.TheVariants as k
-use Rattle.mp_syntax.specs.declared.terminal.Terminal.{Terminal}
-use Rattle.mp_syntax.specs.declared.terminal.Terminal.TheVariants as t
-use Rattle.mp_syntax.specs.Tokens.{Tok, tokens}
-use Rattle.mp_syntax.specs.Terminals.{terminal_by, terminal_of, word_of, is_reserved}
-use Rattle.mp_syntax.specs.Syntax.{Statement}
+use Rattle.mp_tokens.specs.declared.token.TokenKind.{TokenKind}
+use Rattle.mp_tokens.specs.declared.token.TokenKind.TheVariants as k
+use Rattle.mp_tokens.specs.declared.terminal.Terminal.{Terminal}
+use Rattle.mp_tokens.specs.declared.terminal.Terminal.TheVariants as t
+use Rattle.mp_tokens.specs.Tokens.{Tok, tokens}
+use Rattle.mp_tokens.specs.Terminals.{terminal_by, terminal_of, word_of, is_reserved}
+use Rattle.mp_statements.specs.Statements.{Statement}
 use Rattle.mp_syntax.specs.Grammar.{Reads}
-use Rattle.mp_syntax.specs.Literals.{Decimal, number_of, decimal_of, is_in_range, is_number, is_far, far_literal}
+use Rattle.mp_tokens.specs.Literals.{Decimal, number_of, decimal_of, is_in_range, is_number, is_far, far_literal}
 use Rattle.mp_declared.specs.Shifts.{far_shift}
 use Rattle.mp_spelling.specs.Written.{AreDigits, Each}
 use Rattle.mp_spelling.proofs.TokenWords.{Carries, IsToken, tokens-words}

@@ -2,15 +2,16 @@
 use Rattle.std.proofs.Common.{◌≡◌, ℕ, zero, suc, ◌≤◌, List, [], ◌∷◌, Bool, true, false, Option, Some, None, cond, subst, arith}
 use Rattle.std.specs.List.{flat_map}
 use Rattle.std.specs.Option.{ForSome}
-use Rattle.mp_syntax.specs.declared.terminal.Terminal.TheVariants as t
-use Rattle.mp_syntax.specs.declared.terminal.Sign.{Sign}
-use Rattle.mp_syntax.specs.declared.terminal.Sign.TheVariants as sign
-use Rattle.mp_syntax.specs.declared.terminal.Scale.{Scale}
-use Rattle.mp_syntax.specs.declared.terminal.Scale.TheVariants as scale
-use Rattle.mp_syntax.specs.Tokens.{Tok}
-use Rattle.mp_syntax.specs.Syntax.{Expr, Term, Factor, joined, scaled, with_terms, with_factors, signed, Item, Statement}
-use Rattle.mp_syntax.specs.Literals.{number_of}
-use Rattle.mp_syntax.specs.Parts.{items_in, equations_of}
+use Rattle.mp_tokens.specs.declared.terminal.Terminal.TheVariants as t
+use Rattle.mp_syntax.specs.declared.operator.Sign.{Sign}
+use Rattle.mp_syntax.specs.declared.operator.Sign.TheVariants as sign
+use Rattle.mp_syntax.specs.declared.operator.Scale.{Scale}
+use Rattle.mp_syntax.specs.declared.operator.Scale.TheVariants as scale
+use Rattle.mp_tokens.specs.Tokens.{Tok}
+use Rattle.mp_syntax.specs.Syntax.{Expr, Term, Factor, joined, scaled, with_terms, with_factors, signed}
+use Rattle.mp_statements.specs.Statements.{Item, Statement}
+use Rattle.mp_tokens.specs.Literals.{number_of}
+use Rattle.mp_statements.specs.Parts.{items_in, equations_of}
 use Rattle.mp_syntax.specs.Grammar as g
 use Rattle.mp_syntax.specs.Grammar.{Is, Reading, Nothing, Many, SignReads, ShiftReads, AtomReads, PowerReads, FactorReads, TimesReads, ProductReads, PlusReads, SumReads, ExprReads, ItemReads, NameReads, StatementReads, Reads}
 use Rattle.mp_declared.specs.Points.{Point, Reader, Equation, Constant, reads, item_reads}

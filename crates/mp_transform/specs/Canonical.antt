@@ -1,7 +1,7 @@
 -- A canonical text, and the headline for it.
 use Rattle.std.specs.Prelude.{◌≡◌, ℕ, List, Some, Ok}
-use Rattle.mp_syntax.specs.Tokens.{Tok, tokens}
-use Rattle.mp_syntax.specs.Syntax.{Statement}
+use Rattle.mp_tokens.specs.Tokens.{Tok, tokens}
+use Rattle.mp_statements.specs.Statements.{Statement}
 use Rattle.mp_syntax.specs.Grammar.{Reads}
 use Rattle.mp_semantics.specs.Model.{Model}
 use Rattle.mp_values.specs.ModelOf.{model_of}

@@ -4,8 +4,8 @@ use Rattle.mp_base.specs.declared.outcome.Outcome.{Outcome}
 use Rattle.mp_base.specs.declared.outcome.Outcome.TheVariants as o
 use Rattle.mp_base.specs.declared.kinds.TextKind.TheVariants as t
 use Rattle.mp_base.specs.declared.kinds.DataKind.TheVariants as d
-use Rattle.mp_syntax.specs.Tokens.{Tok, Fault, BadByte, LongName, OpenComment, OpenText, tokens}
-use Rattle.mp_syntax.specs.Syntax.{Statement}
+use Rattle.mp_tokens.specs.Tokens.{Tok, Fault, BadByte, LongName, OpenComment, OpenText, tokens}
+use Rattle.mp_statements.specs.Statements.{Statement}
 use Rattle.mp_reading.specs.Reading.{file_read}
 use Rattle.mp_declared.specs.Heights.{greatest_height}
 use Rattle.mp_declared.specs.Shifts.{far_shift}

@@ -1,6 +1,6 @@
 // From a text to the file that its tokens read as.
 ghost use Rattle.std.specs.Prelude.{◌≡◌, ◌<◌, ◌≤◌, ◌-◌, ◌^◌, [], drop, length, take, IfOk, MatchResult};
-ghost use Rattle.mp_syntax.specs.Tokens.{tokens};
+ghost use Rattle.mp_tokens.specs.Tokens.{tokens};
 ghost use Rattle.mp_syntax.specs.Grammar.{Reads};
 ghost use Rattle.mp_reading.specs.Reading.{file_read};
 ghost use Rattle.mp_declared.specs.Heights.{greatest_height};

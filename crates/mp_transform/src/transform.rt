@@ -2,7 +2,7 @@
 // run.
 ghost use Rattle.std.specs.Prelude.{◌≡◌, ◌<◌, ◌≤◌, ◌-◌, ◌^◌, length, None, Ok, IfOk, MatchResult};
 ghost use Rattle.std.specs.Option.{ForSome};
-ghost use Rattle.mp_syntax.specs.Literals.{far_literal};
+ghost use Rattle.mp_tokens.specs.Literals.{far_literal};
 ghost use Rattle.mp_file.specs.Shown.{file_of};
 ghost use Rattle.mp_declared.specs.Heights.{greatest_height};
 ghost use Rattle.mp_declared.specs.Shifts.{far_shift};

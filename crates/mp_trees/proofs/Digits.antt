@@ -3,7 +3,7 @@ use Rattle.std.proofs.Common.{◌≡◌, ℕ, ◌+◌, ◌<◌, ◌≤◌, List,
 use Rattle.std.specs.List.{fold}
 use Rattle.std.proofs.lemmas.Bool.{lt-leb}
 use Rattle.std.proofs.lemmas.List.{drop_more}
-use Rattle.mp_syntax.specs.Literals.{with_digit}
+use Rattle.mp_tokens.specs.Literals.{with_digit}
 
 pub le-with_digits : (n : ℕ) (ds : List ℕ) → n ≤ fold with_digit n ds
 le-with_digits n [] = omega arith

@@ -1,9 +1,9 @@
 -- Expressions joined from the left.
 use Rattle.std.specs.Prelude.{Option, Some, None}
-use Rattle.mp_syntax.specs.declared.terminal.Sign.{Sign}
-use Rattle.mp_syntax.specs.declared.terminal.Sign.TheVariants as sign
-use Rattle.mp_syntax.specs.declared.terminal.Scale.{Scale}
-use Rattle.mp_syntax.specs.declared.terminal.Scale.TheVariants as scale
+use Rattle.mp_syntax.specs.declared.operator.Sign.{Sign}
+use Rattle.mp_syntax.specs.declared.operator.Sign.TheVariants as sign
+use Rattle.mp_syntax.specs.declared.operator.Scale.{Scale}
+use Rattle.mp_syntax.specs.declared.operator.Scale.TheVariants as scale
 use Rattle.mp_semantics.specs.Term.{Term, plus, minus, times, quotient}
 use Rattle.mp_values.specs.ModelOf.{signed_term}
 

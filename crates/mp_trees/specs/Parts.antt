@@ -1,7 +1,8 @@
 -- Parts of the model of a file.
 use Rattle.std.specs.Prelude.{ℕ, ℤ, List, ◌++◌, Option, Ok}
-use Rattle.mp_syntax.specs.declared.terminal.Sign.{Sign}
-use Rattle.mp_syntax.specs.Syntax.{Shift, Named, Expr, Statement}
+use Rattle.mp_syntax.specs.declared.operator.Sign.{Sign}
+use Rattle.mp_syntax.specs.Syntax.{Shift, Named, Expr}
+use Rattle.mp_statements.specs.Statements.{Statement}
 use Rattle.mp_rational.specs.Fraction.{Fraction}
 use Rattle.mp_semantics.specs.Term.{Term}
 use Rattle.mp_semantics.specs.Model as m

@@ -1,6 +1,6 @@
 // The tree of a number or of a name.
 ghost use Rattle.std.specs.Prelude.{◌≡◌, ◌≤ℤ◌, pos, unsigned_abs, option_map};
-ghost use Rattle.mp_syntax.specs.Literals.{number_of};
+ghost use Rattle.mp_tokens.specs.Literals.{number_of};
 ghost use Rattle.mp_file.specs.Shown.{shift_of, named_of};
 ghost use Rattle.mp_expr.specs.Shown.{term_of};
 ghost use Rattle.mp_values.specs.Names.{along, named_term};

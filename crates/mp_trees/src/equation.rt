@@ -1,6 +1,6 @@
 // The equations of a file.
 ghost use Rattle.std.specs.Prelude.{◌≡◌, [], ◌∷◌, ◌++◌, map, option_map, OnOk};
-ghost use Rattle.mp_syntax.specs.Parts.{items_in, equations_of};
+ghost use Rattle.mp_statements.specs.Parts.{items_in, equations_of};
 ghost use Rattle.mp_file.specs.Shown.{expr_of, item_of, statement_of, file_of};
 ghost use Rattle.mp_expr.specs.Shown.{term_of};
 ghost use Rattle.mp_model_data.specs.Shown.{equation_of};

@@ -15,7 +15,7 @@ use mp_base::NoMemory;
 use mp_file::File;
 use mp_model_data::{Model, Parameter, Sides};
 use mp_names::{Entry, Names, Table};
-use mp_syntax::NameKind;
+use mp_statements::NameKind;
 use std::alloc::{AllocError, Global};
 
 /// The model of a file that declares these names, where its parameters have these values at last: first each parameter

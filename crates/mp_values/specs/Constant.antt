@@ -2,10 +2,11 @@
 use Rattle.std.specs.Prelude.{ℤ, pos, ◌^◌, ◌==◌, List, fold, Option, Some, None, if◌then◌else◌}
 use Rattle.mp_rational.specs.Fraction.{Fraction, add, sub, mul, neg, div, power, less, ratio_of}
 use Rattle.mp_rational.specs.Lowest.{numerator, denominator}
-use Rattle.mp_syntax.specs.declared.terminal.Sign.{Sign}
-use Rattle.mp_syntax.specs.declared.terminal.Sign.TheVariants as sign
-use Rattle.mp_syntax.specs.Literals.{Decimal, decimal_of}
-use Rattle.mp_syntax.specs.Syntax.{Expr, Number, Variable, Plus, Minus, Times, Over, Signed, Power, Paren, Min, Max, Statement, Declares, Assigns, Model}
+use Rattle.mp_syntax.specs.declared.operator.Sign.{Sign}
+use Rattle.mp_syntax.specs.declared.operator.Sign.TheVariants as sign
+use Rattle.mp_tokens.specs.Literals.{Decimal, decimal_of}
+use Rattle.mp_syntax.specs.Syntax.{Expr, Number, Variable, Plus, Minus, Times, Over, Signed, Power, Paren, Min, Max}
+use Rattle.mp_statements.specs.Statements.{Statement, Declares, Assigns, Model}
 use Rattle.mp_semantics.specs.Value.{of_one, of_both}
 use Rattle.mp_values.specs.Table.{Table, unset, value_in, with_value}
 use Rattle.mp_values.specs.Names.{names_of}

@@ -6,10 +6,11 @@ use Rattle.mp_base.specs.declared.kinds.DataKind.TheVariants as d
 use Rattle.mp_rational.specs.Fraction.{Fraction, less, whole}
 use Rattle.mp_frac.specs.declared.fault.FracFault.TheVariants as f
 use Rattle.mp_frac.specs.Stated.{Outcome, sum_outcome, difference_outcome, product_outcome, quotient_outcome, power_outcome}
-use Rattle.mp_syntax.specs.declared.terminal.Sign.{Sign}
-use Rattle.mp_syntax.specs.Literals.{Decimal, decimal_of, is_in_range}
-use Rattle.mp_syntax.specs.Syntax.{Shift, Expr, Number, Variable, Plus, Minus, Times, Over, Signed, Power, Paren, Min, Max, Item, Statement, Declares, Assigns, Model}
-use Rattle.mp_syntax.specs.Parts.{equations_of}
+use Rattle.mp_syntax.specs.declared.operator.Sign.{Sign}
+use Rattle.mp_tokens.specs.Literals.{Decimal, decimal_of, is_in_range}
+use Rattle.mp_syntax.specs.Syntax.{Shift, Expr, Number, Variable, Plus, Minus, Times, Over, Signed, Power, Paren, Min, Max}
+use Rattle.mp_statements.specs.Statements.{Item, Statement, Declares, Assigns, Model}
+use Rattle.mp_statements.specs.Parts.{equations_of}
 use Rattle.mp_semantics.specs.Term.{Term, number, plus, minus, times, quotient, power_of, least, greatest}
 use Rattle.mp_semantics.specs.Model as m
 use Rattle.mp_values.specs.Table.{Table, unset, value_in, with_value}

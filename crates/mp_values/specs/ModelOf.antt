@@ -1,11 +1,12 @@
 -- The model that a file means (Dynare manual, "The model file"). It knows no limits.
 use Rattle.std.specs.Prelude.{ℕ, List, [], ◌∷◌, option_map, Option, Some, None}
 use Rattle.mp_rational.specs.Fraction.{Fraction}
-use Rattle.mp_syntax.specs.declared.terminal.Sign.{Sign}
-use Rattle.mp_syntax.specs.declared.terminal.Sign.TheVariants as sign
-use Rattle.mp_syntax.specs.Literals.{Decimal, decimal_of}
-use Rattle.mp_syntax.specs.Syntax.{Expr, Number, Variable, Plus, Minus, Times, Over, Signed, Power, Paren, Min, Max, Item, Statement}
-use Rattle.mp_syntax.specs.Parts.{equations_of}
+use Rattle.mp_syntax.specs.declared.operator.Sign.{Sign}
+use Rattle.mp_syntax.specs.declared.operator.Sign.TheVariants as sign
+use Rattle.mp_tokens.specs.Literals.{Decimal, decimal_of}
+use Rattle.mp_syntax.specs.Syntax.{Expr, Number, Variable, Plus, Minus, Times, Over, Signed, Power, Paren, Min, Max}
+use Rattle.mp_statements.specs.Statements.{Item, Statement}
+use Rattle.mp_statements.specs.Parts.{equations_of}
 use Rattle.mp_semantics.specs.Term.{Term, number, negative, plus, minus, times, quotient, power_of, least, greatest}
 use Rattle.mp_semantics.specs.Value.{of_one, of_both}
 use Rattle.mp_semantics.specs.Model as m

@@ -2,12 +2,13 @@
 use Rattle.std.specs.Prelude.{ℕ, ℤ, pos, neg_ℤ, List, Option, Some, None, option_map, position}
 use Rattle.std.specs.Option.{option_or}
 use Rattle.std.specs.Str.{bytes_eq}
-use Rattle.mp_syntax.specs.declared.terminal.Sign.{Sign}
-use Rattle.mp_syntax.specs.declared.terminal.Sign.TheVariants as sign
-use Rattle.mp_syntax.specs.declared.terminal.NameKind.TheVariants as kind
-use Rattle.mp_syntax.specs.Syntax.{Shift, Statement}
-use Rattle.mp_syntax.specs.Literals.{number_of}
-use Rattle.mp_syntax.specs.Parts as parts
+use Rattle.mp_syntax.specs.declared.operator.Sign.{Sign}
+use Rattle.mp_syntax.specs.declared.operator.Sign.TheVariants as sign
+use Rattle.mp_statements.specs.declared.kind.NameKind.TheVariants as kind
+use Rattle.mp_syntax.specs.Syntax.{Shift}
+use Rattle.mp_statements.specs.Statements.{Statement}
+use Rattle.mp_tokens.specs.Literals.{number_of}
+use Rattle.mp_statements.specs.Parts as parts
 use Rattle.mp_semantics.specs.Term.{Term, endogenous, exogenous, parameter, variable}
 
 -- the names of each kind, in declared order

@@ -4,7 +4,8 @@
 
 ghost use Rattle.std.specs.Prelude.{◌≡◌, ℕ, List, Some, Ok};
 ghost use Rattle.mp_rational.specs.Fraction.{Fraction};
-ghost use Rattle.mp_syntax.specs.Syntax.{Expr, Statement};
+ghost use Rattle.mp_syntax.specs.Syntax.{Expr};
+ghost use Rattle.mp_statements.specs.Statements.{Statement};
 ghost use Rattle.mp_semantics.specs.Term.{Term};
 ghost use Rattle.mp_semantics.specs.Model as m;
 ghost use Rattle.mp_values.specs.Table.{Table};

@@ -4,8 +4,8 @@ use Rattle.std.specs.Char.{is_ascii_digit}
 use Rattle.std.specs.List.{list_all, list_any}
 use Rattle.mp_base.specs.declared.job.Job.{Job}
 use Rattle.mp_base.specs.declared.job.Job.TheVariants as j
-use Rattle.mp_syntax.specs.Tokens.{is_first, is_word}
-use Rattle.mp_syntax.specs.Terminals.{is_reserved}
+use Rattle.mp_tokens.specs.Tokens.{is_first, is_word}
+use Rattle.mp_tokens.specs.Terminals.{is_reserved}
 use Rattle.mp_mexpr.specs.declared.value.Value.{Value, Whole, Truth, Text}
 use Rattle.mp_mexpr.specs.declared.defines.Define.{Define}
 

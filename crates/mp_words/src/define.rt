@@ -2,7 +2,7 @@
 ghost use Rattle.std.specs.Prelude.{◌≡◌, ◌<◌, Some, None, length, position, nat_le, IfOk, IsTrue, IfSome, MatchOption, is_some, if◌then◌else◌};
 ghost use Rattle.std.specs.Char.{is_ascii_digit};
 ghost use Rattle.std.specs.List.{list_all, list_any};
-ghost use Rattle.mp_syntax.specs.Tokens.{is_first, is_word};
+ghost use Rattle.mp_tokens.specs.Tokens.{is_first, is_word};
 ghost use Rattle.mp_mexpr.specs.declared.value.Value.{Whole, Text};
 ghost use Rattle.mp_words.specs.Words.{is_name, is_taken, is_definable, is_barred, is_value, digits_after, are_digits, number_within, number_value, value_of, is_equals, define_of};
 

@@ -5,7 +5,7 @@ use Rattle.std.specs.List.{list_all}
 use Rattle.std.specs.Fmt.{digits_onto, digit_glyph}
 use Rattle.std.proofs.lemmas.Bool.{cases_lt, and_from}
 use Rattle.std.proofs.lemmas.List.Folds.{list_all-append}
-use Rattle.mp_syntax.specs.Literals.{with_digit, number_of, kept, without_end_zeros}
+use Rattle.mp_tokens.specs.Literals.{with_digit, number_of, kept, without_end_zeros}
 use Rattle.mp_spelling.specs.Printed.{decimal_digits}
 
 pub digit : (n : ℕ) → 48 ≤ n → n ≤ 57 → is_ascii_digit n ≡ true

@@ -1,10 +1,11 @@
 -- A model as a file, and what that file declares and means.
 use Rattle.std.proofs.Common.{◌≡◌, ℕ, ◌≤◌, List, [], ◌∷◌, ◌++◌, map, cond, Bool, true, false, fold, flat_map, Some, codes, refl, sym, ap, ◌∙◌, arith, append-nil, append_assoc, le_trans}
-use Rattle.mp_syntax.specs.declared.terminal.NameKind.{NameKind}
-use Rattle.mp_syntax.specs.declared.terminal.NameKind.TheVariants as kind
-use Rattle.mp_syntax.specs.Syntax.{Named, Item, Statement, Declares, Model}
-use Rattle.mp_syntax.specs.Parts.{is_kind, names_in, items_in, equations_of}
-use Rattle.mp_syntax.specs.Parts as parts
+use Rattle.mp_statements.specs.declared.kind.NameKind.{NameKind}
+use Rattle.mp_statements.specs.declared.kind.NameKind.TheVariants as kind
+use Rattle.mp_syntax.specs.Syntax.{Named}
+use Rattle.mp_statements.specs.Statements.{Item, Statement, Declares, Model}
+use Rattle.mp_statements.specs.Parts.{is_kind, names_in, items_in, equations_of}
+use Rattle.mp_statements.specs.Parts as parts
 use Rattle.mp_semantics.specs.Term.{Term}
 use Rattle.mp_semantics.specs.Model as m
 use Rattle.mp_semantics.specs.Value.{of_both}

@@ -1,7 +1,7 @@
 -- A term as a file writes it: it is spelled as the term is printed, and it is of the form that a text may have.
 use Rattle.std.proofs.Common.{◌≡◌, ℕ, suc, ◌+◌, ◌≤◌, max, ℤ, pos, negsuc, List, [], ◌∷◌, ◌++◌, Bool, true, false, ◌||◌, nat_lt, Option, Some, None, refl, ap, ◌∙◌, arith, append-nil, append_assoc}
 use Rattle.std.proofs.lemmas.Bool.{le-leb, ltb-false, or_left}
-use Rattle.mp_syntax.specs.declared.terminal.Sign.TheVariants as sign
+use Rattle.mp_syntax.specs.declared.operator.Sign.TheVariants as sign
 use Rattle.mp_syntax.specs.Syntax.{Shift, Named, Expr, Number, Variable, Plus, Minus, Times, Over, Signed, Power, Paren, Min, Max}
 use Rattle.mp_semantics.specs.Term.{Term, number, parameter, variable, steady_state, negative, plus, minus, times, quotient, power_of, least, greatest, pick}
 use Rattle.mp_spelling.specs.Spelled.{spelled}

@@ -6,8 +6,8 @@ use Rattle.std.proofs.lemmas.Bool.{and_parts, and_from, leb-true, eqb-false}
 use Rattle.std.proofs.lemmas.List.{drop_all}
 use Rattle.std.proofs.lemmas.List.Folds.{list_all-append}
 use Rattle.std.proofs.lemmas.Int.{ints}
-use Rattle.mp_syntax.specs.Tokens.{digits_length, fraction_length, mantissa_length, number_length, exponent_length}
-use Rattle.mp_syntax.specs.Literals.{with_digit, number_of, whole_digits, fraction_digits, signed_number, kept, without_end_zeros, all_digits, digits_kept, scale_of, decimal_by, decimal_of}
+use Rattle.mp_tokens.specs.Tokens.{digits_length, fraction_length, mantissa_length, number_length, exponent_length}
+use Rattle.mp_tokens.specs.Literals.{with_digit, number_of, whole_digits, fraction_digits, signed_number, kept, without_end_zeros, all_digits, digits_kept, scale_of, decimal_by, decimal_of}
 
 abbrev pub AllDigits : List ℕ → Type 0
 AllDigits ds = list_all is_ascii_digit ds ≡ true

@@ -6,9 +6,9 @@ use Rattle.std.specs.List.{list_all}
 use Rattle.std.proofs.lemmas.Bool.{and_parts, and_from}
 use Rattle.std.proofs.lemmas.List.{length-replicate}
 use Rattle.std.proofs.lemmas.List.Folds.{list_all-append}
-use Rattle.mp_syntax.specs.declared.terminal.Sign.TheVariants as sign
+use Rattle.mp_syntax.specs.declared.operator.Sign.TheVariants as sign
 use Rattle.mp_syntax.specs.Syntax.{Shift}
-use Rattle.mp_syntax.specs.Literals.{with_digit, number_of, without_end_zeros, decimal_of}
+use Rattle.mp_tokens.specs.Literals.{with_digit, number_of, without_end_zeros, decimal_of}
 use Rattle.mp_spelling.specs.Printed.{decimal_digits, padded, pointed, printed_number, printed_shift}
 use Rattle.mp_spelling.specs.Spelled.{spelled_shift}
 use Rattle.mp_spelling.specs.Written.{IsLiteral, IsShift}

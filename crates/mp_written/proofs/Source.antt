@@ -1,10 +1,11 @@
 -- The model that a file means is one that can be written again.
 use Rattle.std.proofs.Common.{◌≡◌, ℕ, ◌≤◌, max, List, [], ◌∷◌, map, cond, Bool, true, false, flat_map, Option, Some, None, refl, sym, ap, ◌∙◌, subst, arith, le_trans, le_of_eq}
-use Rattle.mp_syntax.specs.declared.terminal.NameKind.{NameKind}
-use Rattle.mp_syntax.specs.declared.terminal.NameKind.TheVariants as kind
-use Rattle.mp_syntax.specs.Syntax.{Named, Expr, Item, Statement, Declares, Assigns, Model}
-use Rattle.mp_syntax.specs.Parts.{is_kind, names_in, equations_of}
-use Rattle.mp_syntax.specs.Parts as parts
+use Rattle.mp_statements.specs.declared.kind.NameKind.{NameKind}
+use Rattle.mp_statements.specs.declared.kind.NameKind.TheVariants as kind
+use Rattle.mp_syntax.specs.Syntax.{Named, Expr}
+use Rattle.mp_statements.specs.Statements.{Item, Statement, Declares, Assigns, Model}
+use Rattle.mp_statements.specs.Parts.{is_kind, names_in, equations_of}
+use Rattle.mp_statements.specs.Parts as parts
 use Rattle.mp_semantics.specs.Term.{Term, number}
 use Rattle.mp_semantics.specs.Model as m
 use Rattle.mp_declared.specs.Sides.{right_side, sides}

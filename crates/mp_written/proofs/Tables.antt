@@ -2,7 +2,7 @@
 use Rattle.std.proofs.Common.{◌≡◌, ℕ, ◌⊎◌, inl, inr, List, [], ◌∷◌, map, Bool, true, false, cond, bytes_eq, fold, Option, Some, None, refl, sym, ap, ◌∙◌, subst}
 use Rattle.std.proofs.lemmas.Slice.Eq.{bytes_eq-Decides}
 use Rattle.mp_rational.specs.Fraction.{Fraction}
-use Rattle.mp_syntax.specs.Syntax.{Statement, Declares, Assigns, Model}
+use Rattle.mp_statements.specs.Statements.{Statement, Declares, Assigns, Model}
 use Rattle.mp_semantics.specs.Model as m
 use Rattle.mp_semantics.specs.Value.{of_both}
 use Rattle.mp_spelling.specs.Written.{Each}

@@ -1,9 +1,9 @@
 -- A term that comes from a file is one that a file means, as high as its expression; and written it is read as that term.
 use Rattle.std.proofs.Common.{◌≡◌, ℕ, ◌+◌, max, ℤ, pos, List, Bool, true, false, ◌||◌, nat_lt, Option, Some, None, option_map, refl, sym, ap, ◌∙◌, subst}
 use Rattle.std.specs.Option.{option_or}
-use Rattle.mp_syntax.specs.declared.terminal.Sign.{Sign}
-use Rattle.mp_syntax.specs.declared.terminal.Sign.TheVariants as sign
-use Rattle.mp_syntax.specs.Literals.{decimal_of}
+use Rattle.mp_syntax.specs.declared.operator.Sign.{Sign}
+use Rattle.mp_syntax.specs.declared.operator.Sign.TheVariants as sign
+use Rattle.mp_tokens.specs.Literals.{decimal_of}
 use Rattle.mp_syntax.specs.Syntax.{Expr, Number, Variable, Plus, Minus, Times, Over, Signed, Power, Paren, Min, Max}
 use Rattle.mp_semantics.specs.Term.{Term, endogenous, exogenous, number, parameter, variable, steady_state, negative, plus, minus, times, quotient, power_of, least, greatest, pick}
 use Rattle.mp_semantics.specs.Value.{of_one, of_both}

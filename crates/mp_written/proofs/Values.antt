@@ -8,9 +8,9 @@ use Rattle.std.proofs.Math.IntN.{one, *ℤ-one}
 use Rattle.std.proofs.lemmas.Bool.{false_from_ne_true}
 use Rattle.mp_rational.specs.Fraction.{Fraction, mul, neg, div, is_zero, whole, ratio_of}
 use Rattle.mp_rational.specs.Lowest.{numerator, denominator}
-use Rattle.mp_syntax.specs.declared.terminal.Sign.TheVariants as sign
+use Rattle.mp_syntax.specs.declared.operator.Sign.TheVariants as sign
 use Rattle.mp_syntax.specs.Syntax.{Expr, Number, Over, Signed}
-use Rattle.mp_syntax.specs.Literals.{decimal_of}
+use Rattle.mp_tokens.specs.Literals.{decimal_of}
 use Rattle.mp_semantics.specs.Value.{of_one, of_both}
 use Rattle.mp_spelling.specs.Printed.{decimal_digits, signed_digits, printed_fraction}
 use Rattle.mp_spelling.specs.Spelled.{spelled}

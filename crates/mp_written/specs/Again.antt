@@ -1,6 +1,6 @@
 -- A file that a model's text is.
 use Rattle.std.specs.Prelude.{◌≡◌, List, Some}
-use Rattle.mp_syntax.specs.Syntax.{Statement}
+use Rattle.mp_statements.specs.Statements.{Statement}
 use Rattle.mp_semantics.specs.Model.{Model}
 use Rattle.mp_spelling.specs.Printed.{printed_model}
 use Rattle.mp_spelling.specs.Spelled.{spelled_file}

@@ -2,7 +2,7 @@
 #![tactic(auto)]
 
 ghost use Rattle.std.specs.Prelude.{◌≡◌, ◌≤◌, List, Some};
-ghost use Rattle.mp_syntax.specs.Syntax.{Statement};
+ghost use Rattle.mp_statements.specs.Statements.{Statement};
 ghost use Rattle.mp_semantics.specs.Model.{Model};
 ghost use Rattle.mp_declared.specs.Heights.{greatest_height};
 ghost use Rattle.mp_spelling.specs.Written.{IsFile};

@@ -1,6 +1,6 @@
 use Rattle.std.proofs.Common.{◌≡◌, ℕ, pos, [], ◌∷◌, Option, Some, refl, ap, subst, arith}
 use Rattle.mp_rational.specs.Fraction.{Fraction, mul, ratio_of}
-use Rattle.mp_syntax.specs.Literals.{decimal_of}
+use Rattle.mp_tokens.specs.Literals.{decimal_of}
 use Rattle.mp_semantics.specs.Term.{endogenous}
 use Rattle.std.specs.List.{AllByRecursion}
 use Rattle.mp_semantics.specs.Model.{in_force}

@@ -1,6 +1,6 @@
 use Rattle.std.proofs.Common.{List, ◌-◌, ◌^◌, min, map, ap, ◌∙◌, refl}
 use Rattle.mp_syntax.specs.Syntax as s
-use Rattle.mp_syntax.specs.Parts.{items_in, equations_of}
+use Rattle.mp_statements.specs.Parts.{items_in, equations_of}
 use Rattle.mp_file.specs.Shown.{statement_of}
 use Rattle.mp_declared.specs.Heights.{greatest}
 use Rattle.mp_decl.proofs.HeightLaws.{heights, most_turn}

@@ -1,5 +1,5 @@
 use Rattle.std.proofs.Common.{◌≡◌, ◌-◌, ◌^◌, min, max, map, drop}
-use Rattle.mp_syntax.specs.Parts.{equations_of}
+use Rattle.mp_statements.specs.Parts.{equations_of}
 use Rattle.mp_file.specs.Shown.{statement_of}
 use Rattle.mp_declared.specs.Heights.{greatest}
 use Rattle.mp_decl.proofs.HeightLaws.{heights}

@@ -2,7 +2,7 @@ use Rattle.std.proofs.Common.{ℕ, Some, map, option_map, refl, sym, ap, ◌∙�
 use Rattle.std.specs.Prelude.{find}
 use Rattle.std.specs.List.{flat_map}
 use Rattle.std.proofs.lemmas.Grind.{flat_map-append}
-use Rattle.mp_syntax.specs.Parts.{items_in, equations_of}
+use Rattle.mp_statements.specs.Parts.{items_in, equations_of}
 use Rattle.mp_file.specs.Shown.{statement_of, file_of}
 use Rattle.mp_declared.specs.Points.{Point, item_reads}
 use Rattle.mp_declared.specs.Shifts.{reach_of, is_far}

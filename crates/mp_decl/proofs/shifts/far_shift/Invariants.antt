@@ -1,7 +1,7 @@
 use Rattle.std.proofs.Common.{◌≡◌, map, drop}
 use Rattle.std.specs.Prelude.{find}
 use Rattle.std.specs.List.{flat_map}
-use Rattle.mp_syntax.specs.Parts.{equations_of}
+use Rattle.mp_statements.specs.Parts.{equations_of}
 use Rattle.mp_file.specs.Shown.{statement_of}
 use Rattle.mp_declared.specs.Points.{item_reads}
 use Rattle.mp_declared.specs.Shifts.{reach_of, is_far}

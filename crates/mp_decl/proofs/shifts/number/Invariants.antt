@@ -1,6 +1,6 @@
 use Rattle.std.proofs.Common.{◌≡◌, ◌≤◌, ◌-◌, ◌^◌, min, drop}
 use Rattle.std.specs.Prelude.{fold}
-use Rattle.mp_syntax.specs.Literals.{with_digit, number_of}
+use Rattle.mp_tokens.specs.Literals.{with_digit, number_of}
 use Rattle.mp_decl.proofs.shifts.number.Given as goal
 
 abbrev pub invariant-loop-digit : goal.invariant-loop-digit

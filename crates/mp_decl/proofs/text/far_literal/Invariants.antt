@@ -1,5 +1,5 @@
 use Rattle.std.proofs.Common.{◌≡◌, map, drop}
-use Rattle.mp_syntax.specs.Literals.{far_literal}
+use Rattle.mp_tokens.specs.Literals.{far_literal}
 use Rattle.mp_lex.specs.Shown.{tok_of}
 use Rattle.mp_decl.proofs.text.far_literal.Given as goal
 

@@ -1,5 +1,5 @@
 use Rattle.std.proofs.Common.{ap, ◌∙◌}
-use Rattle.mp_syntax.specs.Literals.{decimal_of}
+use Rattle.mp_tokens.specs.Literals.{decimal_of}
 use Rattle.mp_literal.specs.Accepted.{accepted}
 use Rattle.mp_literal.proofs.Cuts.{decimal_of-parts}
 use Rattle.mp_literal.proofs.Told.{told}

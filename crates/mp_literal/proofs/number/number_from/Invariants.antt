@@ -1,5 +1,5 @@
 use Rattle.std.proofs.Common.{◌≡◌, ◌≤◌, ◌^◌, drop, fold}
-use Rattle.mp_syntax.specs.Literals.{with_digit}
+use Rattle.mp_tokens.specs.Literals.{with_digit}
 use Rattle.mp_literal.proofs.number.number_from.Given as goal
 
 abbrev pub invariant-loop-digit : goal.invariant-loop-digit

@@ -1,5 +1,5 @@
 use Rattle.std.proofs.Common.{◌≡◌, ◌+◌, drop}
-use Rattle.mp_syntax.specs.Tokens.{digits_length}
+use Rattle.mp_tokens.specs.Tokens.{digits_length}
 use Rattle.mp_literal.proofs.parts.digits_length.Given as goal
 
 abbrev pub invariant-loop-i : goal.invariant-loop-i

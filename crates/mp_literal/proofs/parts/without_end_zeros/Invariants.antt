@@ -1,5 +1,5 @@
 use Rattle.std.proofs.Common.{◌≡◌, ◌≤◌, length, take}
-use Rattle.mp_syntax.specs.Literals.{without_end_zeros}
+use Rattle.mp_tokens.specs.Literals.{without_end_zeros}
 use Rattle.mp_literal.proofs.parts.without_end_zeros.Given as goal
 
 abbrev pub invariant-loop-count : goal.invariant-loop-count

@@ -1,5 +1,5 @@
 use Rattle.mp_file.specs.Shown.{file_of}
-use Rattle.mp_syntax.specs.Tokens.{tokens}
+use Rattle.mp_tokens.specs.Tokens.{tokens}
 use Rattle.mp_transform.proofs.FarShifts.{shifts-near}
 use Rattle.mp_transform.proofs.Inverse.{lexed}
 use Rattle.mp_transform.proofs.transform.printed_text.Goals as goal

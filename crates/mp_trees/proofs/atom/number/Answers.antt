@@ -1,5 +1,5 @@
 use Rattle.std.proofs.Common.{◌^◌, Some, None, cond, sym, ap, arith}
-use Rattle.mp_syntax.specs.Literals.{number_of}
+use Rattle.mp_tokens.specs.Literals.{number_of}
 use Rattle.mp_trees.proofs.Digits.{beyond_at}
 use Rattle.mp_trees.proofs.atom.number.Goals as goal
 

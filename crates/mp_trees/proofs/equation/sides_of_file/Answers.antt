@@ -1,6 +1,6 @@
 use Rattle.std.proofs.Common.{map, drop, ◌+◌, ◌++◌, sym, ap, ◌∙◌}
 use Rattle.std.proofs.lemmas.Result.{err_from_is_err_and}
-use Rattle.mp_syntax.specs.Parts.{equations_of}
+use Rattle.mp_statements.specs.Parts.{equations_of}
 use Rattle.mp_file.specs.Shown.{item_of, statement_of, file_of}
 use Rattle.mp_model_data.specs.Shown.{equation_of}
 use Rattle.mp_values.specs.Folded.{each_given, equation_given}

@@ -1,5 +1,5 @@
 use Rattle.std.proofs.Common.{◌≡◌, map, drop}
-use Rattle.mp_syntax.specs.Parts.{equations_of}
+use Rattle.mp_statements.specs.Parts.{equations_of}
 use Rattle.mp_file.specs.Shown.{statement_of}
 use Rattle.mp_model_data.specs.Shown.{equation_of}
 use Rattle.mp_values.specs.Folded.{each_given, equation_given}

@@ -1,0 +1,6 @@
+//! Statements as definitions. The code here is the enum that the definitions and every layer above share.
+#![tactic(auto)]
+
+pub mod kind;
+
+pub use kind::NameKind;

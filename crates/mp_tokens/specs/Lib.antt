@@ -1,0 +1,4 @@
+pub mod Literals
+pub mod Slices
+pub mod Terminals
+pub mod Tokens
