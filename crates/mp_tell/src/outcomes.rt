@@ -1,7 +1,7 @@
 // The line of each outcome.
 ghost use Rattle.std.specs.Prelude.{◌≡◌};
 ghost use Rattle.mp_outside.specs.Outside.{Tells};
-ghost use Rattle.mp_tell.specs.Lines.{line, HasReduced};
+ghost use Rattle.mp_tell.specs.Lines.{line, refusal_line};
 
 use crate::line::Line;
 use crate::names::{
@@ -9,14 +9,13 @@ use crate::names::{
     text_name,
 };
 use mp_base::{
-    DataKind, DeclKind, GuessFault, Label, LooseKind, MacroKind, NotSolved, NumberFault, Outcome,
-    Ratio, Stage, TextKind,
+    DataRefusal, DeclKind, GuessFault, Label, LooseKind, MacroKind, NotSolved, NumberFault,
+    Outcome, Refusal, Stage, TextKind,
 };
 use mp_outside::Sink;
 
 /// Writes the fault line of an outcome, or a part of it where the count of faults rose.
 pub fn tell<E: Sink>(err: &mut E, outcome: &Outcome)
-    requires { HasReduced outcome.now }
     ensures { Tells (E.held err.old) (E.held err.new) (line outcome.now) }
 {
     let _ = mp_outside::write_whole(err, line_of(outcome).as_slice());
@@ -28,7 +27,16 @@ pub(crate) fn line_of(outcome: &Outcome) -> Line
 {
     match outcome {
         Outcome::Done => Line::new(),
-        Outcome::NotSolved(
+        Outcome::Refused(refusal) => refusal_line(refusal),
+    }
+}
+
+// The line of a refusal.
+fn refusal_line(refusal: &Refusal) -> Line
+    ensures { result ≡ refusal_line refusal.now }
+{
+    match refusal {
+        Refusal::NotSolved(
             NotSolved::StepLimit {
                 stage,
                 steps,
@@ -37,7 +45,7 @@ pub(crate) fn line_of(outcome: &Outcome) -> Line
                 bound,
             },
         ) => step_limit_line(*stage, *steps, *equation, *period, *bound),
-        Outcome::NotSolved(
+        Refusal::NotSolved(
             NotSolved::Pivot {
                 stage,
                 step,
@@ -46,24 +54,19 @@ pub(crate) fn line_of(outcome: &Outcome) -> Line
                 pivot,
             },
         ) => pivot_line(*stage, *step, slot, *period, *pivot),
-        Outcome::Words { word } => words_line(*word),
-        Outcome::Absent { name } => absent_line(name),
-        Outcome::Macro {
+        Refusal::Words { word } => words_line(*word),
+        Refusal::Absent { name } => absent_line(name),
+        Refusal::Macro {
             kind,
             file,
             line: number,
         } => macro_line(*kind, file, *number),
-        Outcome::Text { kind, at, token } => text_line(*kind, *at, token),
-        Outcome::Declared { kind, name, at } => declared_line(*kind, name, *at),
-        Outcome::Data {
-            kind,
-            at,
-            first,
-            second,
-        } => data_line(*kind, *at, *first, *second),
-        Outcome::Number(fault) => number_line(fault),
-        Outcome::Guess(GuessFault::GuessLimit { period, name }) => guess_limit_line(*period, name),
-        Outcome::Guess(
+        Refusal::Text { kind, at, token } => text_line(*kind, *at, token),
+        Refusal::Declared { kind, name, at } => declared_line(*kind, name, *at),
+        Refusal::Data(data) => data_line(data),
+        Refusal::Number(fault) => number_line(fault),
+        Refusal::Guess(GuessFault::GuessLimit { period, name }) => guess_limit_line(*period, name),
+        Refusal::Guess(
             GuessFault::SignUnknown {
                 period,
                 name,
@@ -71,21 +74,21 @@ pub(crate) fn line_of(outcome: &Outcome) -> Line
                 high,
             },
         ) => sign_unknown_line(*period, name, *low, *high),
-        Outcome::Guess(GuessFault::EndBinding { name }) => end_binding_line(name),
-        Outcome::Loose {
+        Refusal::Guess(GuessFault::EndBinding { name }) => end_binding_line(name),
+        Refusal::Loose {
             kind,
             equation,
             period,
             value,
         } => loose_line(*kind, *equation, *period, *value),
-        Outcome::ReadFault { count } => read_fault_line(*count),
-        Outcome::WriteFault { count } => write_fault_line(*count),
-        Outcome::NoMemory => no_memory_line(),
+        Refusal::ReadFault { count } => read_fault_line(*count),
+        Refusal::WriteFault { count } => write_fault_line(*count),
+        Refusal::NoMemory => no_memory_line(),
     }
 }
 
 fn step_limit_line(stage: Stage, steps: u32, equation: u32, period: u32, bound: i128) -> Line
-    ensures { result ≡ line (Outcome.NotSolved (NotSolved.StepLimit stage steps equation period bound)) }
+    ensures { result ≡ refusal_line (Refusal.NotSolved (NotSolved.StepLimit stage steps equation period bound)) }
 {
     let mut line = Line::new();
     line.text(b"modpath: 1 StepLimit stage=");
@@ -103,7 +106,7 @@ fn step_limit_line(stage: Stage, steps: u32, equation: u32, period: u32, bound: 
 }
 
 fn pivot_line(stage: Stage, step: u32, slot: &Label, period: u32, pivot: i128) -> Line
-    ensures { result ≡ line (Outcome.NotSolved (NotSolved.Pivot stage step slot.now period pivot)) }
+    ensures { result ≡ refusal_line (Refusal.NotSolved (NotSolved.Pivot stage step slot.now period pivot)) }
 {
     let mut line = Line::new();
     line.text(b"modpath: 1 Pivot stage=");
@@ -121,7 +124,7 @@ fn pivot_line(stage: Stage, step: u32, slot: &Label, period: u32, pivot: i128) -
 }
 
 fn words_line(word: u32) -> Line
-    ensures { result ≡ line (Outcome.Words word) }
+    ensures { result ≡ refusal_line (Refusal.Words word) }
 {
     let mut line = Line::new();
     line.text(b"modpath: 2 Words word=");
@@ -131,7 +134,7 @@ fn words_line(word: u32) -> Line
 }
 
 fn absent_line(name: &Label) -> Line
-    ensures { result ≡ line (Outcome.Absent name.now) }
+    ensures { result ≡ refusal_line (Refusal.Absent name.now) }
 {
     let mut line = Line::new();
     line.text(b"modpath: 3 Absent name=");
@@ -141,7 +144,7 @@ fn absent_line(name: &Label) -> Line
 }
 
 fn macro_line(kind: MacroKind, file: &Label, number: u32) -> Line
-    ensures { result ≡ line (Outcome.Macro kind file.now number) }
+    ensures { result ≡ refusal_line (Refusal.Macro kind file.now number) }
 {
     let mut line = Line::new();
     line.text(b"modpath: 4 Macro kind=");
@@ -155,7 +158,7 @@ fn macro_line(kind: MacroKind, file: &Label, number: u32) -> Line
 }
 
 fn text_line(kind: TextKind, at: u32, token: &Label) -> Line
-    ensures { result ≡ line (Outcome.Text kind at token.now) }
+    ensures { result ≡ refusal_line (Refusal.Text kind at token.now) }
 {
     let mut line = Line::new();
     line.text(b"modpath: 5 Text kind=");
@@ -169,7 +172,7 @@ fn text_line(kind: TextKind, at: u32, token: &Label) -> Line
 }
 
 fn declared_line(kind: DeclKind, name: &Label, at: u32) -> Line
-    ensures { result ≡ line (Outcome.Declared kind name.now at) }
+    ensures { result ≡ refusal_line (Refusal.Declared kind name.now at) }
 {
     let mut line = Line::new();
     line.text(b"modpath: 6 Declared kind=");
@@ -182,24 +185,24 @@ fn declared_line(kind: DeclKind, name: &Label, at: u32) -> Line
     line
 }
 
-fn data_line(kind: DataKind, at: u32, first: Ratio, second: Ratio) -> Line
-    ensures { result ≡ line (Outcome.Data kind at first second) }
+fn data_line(refused: &DataRefusal) -> Line
+    ensures { result ≡ refusal_line (Refusal.Data refused.now) }
 {
     let mut line = Line::new();
     line.text(b"modpath: 7 Data kind=");
-    line.text(data_name(kind));
+    line.text(data_name(refused.kind));
     line.text(b" at=");
-    line.number(u64::from(at));
+    line.number(u64::from(refused.at));
     line.text(b" first=");
-    line.fraction(first);
+    line.fraction(refused.first.ratio());
     line.text(b" second=");
-    line.fraction(second);
+    line.fraction(refused.second.ratio());
     line.text(b"\n");
     line
 }
 
 fn number_line(fault: &NumberFault) -> Line
-    ensures { result ≡ line (Outcome.Number fault.now) }
+    ensures { result ≡ refusal_line (Refusal.Number fault.now) }
 {
     let mut line = Line::new();
     line.text(b"modpath: 8 Number kind=");
@@ -219,7 +222,7 @@ fn number_line(fault: &NumberFault) -> Line
 }
 
 fn guess_limit_line(period: u32, name: &Label) -> Line
-    ensures { result ≡ line (Outcome.Guess (GuessFault.GuessLimit period name.now)) }
+    ensures { result ≡ refusal_line (Refusal.Guess (GuessFault.GuessLimit period name.now)) }
 {
     let mut line = Line::new();
     line.text(b"modpath: 9 GuessLimit period=");
@@ -231,7 +234,7 @@ fn guess_limit_line(period: u32, name: &Label) -> Line
 }
 
 fn sign_unknown_line(period: u32, name: &Label, low: i128, high: i128) -> Line
-    ensures { result ≡ line (Outcome.Guess (GuessFault.SignUnknown period name.now low high)) }
+    ensures { result ≡ refusal_line (Refusal.Guess (GuessFault.SignUnknown period name.now low high)) }
 {
     let mut line = Line::new();
     line.text(b"modpath: 9 SignUnknown period=");
@@ -247,7 +250,7 @@ fn sign_unknown_line(period: u32, name: &Label, low: i128, high: i128) -> Line
 }
 
 fn end_binding_line(name: &Label) -> Line
-    ensures { result ≡ line (Outcome.Guess (GuessFault.EndBinding name.now)) }
+    ensures { result ≡ refusal_line (Refusal.Guess (GuessFault.EndBinding name.now)) }
 {
     let mut line = Line::new();
     line.text(b"modpath: 9 EndBinding name=");
@@ -257,7 +260,7 @@ fn end_binding_line(name: &Label) -> Line
 }
 
 fn loose_line(kind: LooseKind, equation: u32, period: u32, value: i128) -> Line
-    ensures { result ≡ line (Outcome.Loose kind equation period value) }
+    ensures { result ≡ refusal_line (Refusal.Loose kind equation period value) }
 {
     let mut line = Line::new();
     line.text(b"modpath: 10 Loose kind=");
@@ -273,7 +276,7 @@ fn loose_line(kind: LooseKind, equation: u32, period: u32, value: i128) -> Line
 }
 
 fn read_fault_line(count: u64) -> Line
-    ensures { result ≡ line (Outcome.ReadFault count) }
+    ensures { result ≡ refusal_line (Refusal.ReadFault count) }
 {
     let mut line = Line::new();
     line.text(b"modpath: 11 ReadFault count=");
@@ -283,7 +286,7 @@ fn read_fault_line(count: u64) -> Line
 }
 
 fn write_fault_line(count: u64) -> Line
-    ensures { result ≡ line (Outcome.WriteFault count) }
+    ensures { result ≡ refusal_line (Refusal.WriteFault count) }
 {
     let mut line = Line::new();
     line.text(b"modpath: 12 WriteFault count=");
@@ -293,7 +296,7 @@ fn write_fault_line(count: u64) -> Line
 }
 
 fn no_memory_line() -> Line
-    ensures { result ≡ line Outcome.NoMemory }
+    ensures { result ≡ refusal_line Refusal.NoMemory }
 {
     let mut line = Line::new();
     line.text(b"modpath: 13 NoMemory\n");
