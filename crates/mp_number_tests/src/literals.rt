@@ -1,6 +1,6 @@
 // What no clause says: worked literals.
 
-use crate::{Decimal, decimal};
+use mp_literal::{Decimal, decimal};
 
 // Each literal, with m and s.
 const ACCEPTED: [(&str, u128, u8); 24] = [

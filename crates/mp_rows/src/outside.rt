@@ -1,8 +1,9 @@
 // Files and sinks in memory, and what the real ones answer on devices that every system has.
-use crate::{
-    Calls, Fetched, Files, Listing, MemFiles, MemSink, Put, RealFiles, RealSink, Sink, Stream,
-};
 use mp_base::Bytes;
+use mp_outside::{
+    Calls, Fetched, Files, Listing, MemFiles, MemSink, Put, RealFiles, RealSink, Sink, Stream,
+    write_whole,
+};
 use std::fs;
 use std::test::Fail;
 
@@ -32,7 +33,7 @@ fn listed_calls_fail(rt: HostRuntime) -> Result<(), Fail> {
 fn a_sink_takes_what_it_has_room_for(rt: HostRuntime) -> Result<(), Fail> {
     let mut sink = MemSink::with_room(rt.alloc(), 4, Calls::new(rt.alloc()))?;
     assert_eq!(rt; sink.put(b"abc"), Put::Took(3));
-    assert!(rt; crate::write_whole(&mut sink, b"de").is_err());
+    assert!(rt; write_whole(&mut sink, b"de").is_err());
     assert_eq!(rt; sink.taken(), b"abcd".as_slice());
     assert_eq!(rt; sink.faults(), 1);
     Ok(())

@@ -1,8 +1,8 @@
 // What no clause says: that words are read where there is memory.
 
-use crate::{WordFault, read_words};
 use mp_base::{Job, NoMemory, WordList};
 use mp_mexpr::Value;
+use mp_words::{WordFault, read_words};
 use std::alloc::Global;
 use std::test::Fail;
 

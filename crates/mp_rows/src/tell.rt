@@ -1,7 +1,7 @@
 // The lines as they are read by a person.
-use crate::outcomes::line_of;
 use mp_base::{DataKind, GuessFault, Label, LooseKind, NotSolved, Outcome, Ratio, Stage, TextKind};
 use mp_outside::{Calls, MemSink};
+use mp_tell::tell;
 use std::test::Fail;
 
 #[test]
@@ -59,10 +59,9 @@ fn lines_are_those_of_the_format(rt: HostRuntime) -> Result<(), Fail> {
         (Outcome::Done, b"".as_slice()),
     ];
     for (outcome, line) in rows.iter() {
-        assert_eq!(rt; line_of(outcome).as_slice(), *line);
+        let mut err = MemSink::with_room(rt.alloc(), 512, Calls::new(rt.alloc()))?;
+        tell(&mut err, outcome);
+        assert_eq!(rt; err.taken(), *line);
     }
-    let mut err = MemSink::with_room(rt.alloc(), 512, Calls::new(rt.alloc()))?;
-    crate::tell(&mut err, &Outcome::Words { word: 3 });
-    assert_eq!(rt; err.taken(), b"modpath: 2 Words word=3\n".as_slice());
     Ok(())
 }

@@ -1,6 +1,6 @@
 // The rule of refusal and the answers, against Python's fractions.
 
-use crate::{Frac, FracFault};
+use mp_frac::{Frac, FracFault};
 use std::cmp::Ordering;
 use std::test::Fail;
 
