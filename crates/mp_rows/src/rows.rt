@@ -40,7 +40,7 @@ const EMPTY: Row<'static> = Row {
 };
 
 // The program is shown these words, and refuses them so.
-const WORDS: [(&[&str], u8, &[u8]); 8] = [
+const WORDS: [(&[&str], u8, &[u8]); 9] = [
     (&[], 2, b"modpath: 2 Words word=1\n"),
     (&["m", "m"], 2, b"modpath: 2 Words word=1\n"),
     (&["transform"], 2, b"modpath: 2 Words word=2\n"),
@@ -53,6 +53,7 @@ const WORDS: [(&[&str], u8, &[u8]); 8] = [
         3,
         b"modpath: 3 Absent name=nofile\n",
     ),
+    (&["expand", "nofile"], 3, b"modpath: 3 Absent name=nofile\n"),
 ];
 
 const DOUBLED: &[u8] = b"var x; model; x = 2*x(-1); end;";
