@@ -13,7 +13,7 @@ use std::alloc::Global;
 use std::test::Fail;
 
 // A text, and the number of its wrong token, or 0 where it is a file.
-const WRONG_TOKENS: [(&[u8], u32); 14] = [
+const WRONG_TOKENS: &[(&[u8], u32)] = &[
     (
         b"parameters a, b; a = .5e1; b = -a^-2/(1 + min(a, 3));\nvar x; varexo e; model; x = a*x(-1) + e; max(x, b); end;",
         0,
@@ -47,7 +47,7 @@ fn wrong_token(alloc: Global, text: &[u8]) -> Result<u32, Fail>
 
 #[test]
 fn a_wrong_token_has_its_number(rt: HostRuntime) -> Result<(), Fail> {
-    for (text, index) in WRONG_TOKENS {
+    for &(text, index) in WRONG_TOKENS {
         assert_eq!(rt; wrong_token(rt.alloc(), text)?, index);
     }
     // 500 open parentheses are read, and of 501 the last is wrong

@@ -3,7 +3,7 @@
 use mp_literal::{Decimal, decimal};
 
 // Each literal, with m and s.
-const ACCEPTED: [(&str, u128, u8); 24] = [
+const ACCEPTED: &[(&str, u128, u8)] = &[
     ("0", 0, 0),
     ("000", 0, 0),
     ("7", 7, 0),
@@ -54,7 +54,7 @@ const ACCEPTED: [(&str, u128, u8); 24] = [
     ),
 ];
 
-const REFUSED: [&str; 10] = [
+const REFUSED: &[&str] = &[
     "1e38",
     "10e37",
     "1e-38",
@@ -69,14 +69,14 @@ const REFUSED: [&str; 10] = [
 
 #[test]
 fn literals_have_their_numbers(rt: HostRuntime) {
-    for (literal, m, s) in ACCEPTED {
+    for &(literal, m, s) in ACCEPTED {
         assert_eq!(rt;
             decimal(literal.as_bytes()),
             Some(Decimal { m, s }),
             "in {literal}"
         );
     }
-    for literal in REFUSED {
+    for &literal in REFUSED {
         assert_eq!(rt; decimal(literal.as_bytes()), None, "in {literal}");
     }
 }

@@ -38,7 +38,7 @@ enum Operation {
     Max,
 }
 
-const POINTS: [(Operation, i128, i128, Answer); 18] = [
+const POINTS: &[(Operation, i128, i128, Answer)] = &[
     (Operation::Add, MOST - 1, 1, Ok(MOST)),
     (Operation::Add, MOST, 1, OVER),
     (Operation::Sub, MOST, 1, Ok(MOST - 1)),
@@ -64,7 +64,7 @@ const POINTS: [(Operation, i128, i128, Answer); 18] = [
     (Operation::Div, ONE, -1, OVER),
 ];
 
-const POWERS: [(i128, i8, Answer); 7] = [
+const POWERS: &[(i128, i8, Answer)] = &[
     (2 * ONE, -2, Ok(ONE / 4)),
     (-2 * ONE, -17, Ok(-7_629_395)),
     (3 * ONE, -16, OVER),
@@ -75,7 +75,7 @@ const POWERS: [(i128, i8, Answer); 7] = [
 ];
 
 // Fractions n/d with their points and their intervals.
-const FRACTIONS: [(i128, i128, Answer, Ends); 6] = [
+const FRACTIONS: &[(i128, i128, Answer, Ends)] = &[
     (
         -1,
         3,
@@ -89,7 +89,7 @@ const FRACTIONS: [(i128, i128, Answer, Ends); 6] = [
     (PART - 1, LARGE, Ok(MOST - 1), Ok((MOST - 1, MOST))),
 ];
 
-const INTERVALS: [(Operation, Pair, Pair, Ends); 11] = [
+const INTERVALS: &[(Operation, Pair, Pair, Ends)] = &[
     (Operation::Add, (-1, 2), (3, 5), Ok((2, 7))),
     (Operation::Sub, (-1, 2), (3, 5), Ok((-6, -1))),
     (Operation::Min, (-1, 2), (0, 1), Ok((-1, 1))),
@@ -123,7 +123,7 @@ const INTERVALS: [(Operation, Pair, Pair, Ends); 11] = [
     ),
 ];
 
-const INTERVAL_POWERS: [(Pair, i8, Ends); 4] = [
+const INTERVAL_POWERS: &[(Pair, i8, Ends)] = &[
     ((-2 * ONE, 3 * ONE), 2, Ok((-6 * ONE, 9 * ONE))),
     ((2 * ONE, 3 * ONE), -2, Ok((111_111_111_111, ONE / 4))),
     ((3 * ONE, 3 * ONE), -3, Ok((37_037_037_037, 37_037_037_038))),
@@ -131,21 +131,21 @@ const INTERVAL_POWERS: [(Pair, i8, Ends); 4] = [
 ];
 
 // Two intervals, and what is picked of (1, 2) and (5, 6).
-const PICKS: [(Pair, Pair, Pair); 4] = [
+const PICKS: &[(Pair, Pair, Pair)] = &[
     ((-1, 2), (3, 5), (1, 2)),
     ((3, 5), (-1, 2), (5, 6)),
     ((-1, 2), (2, 9), (1, 6)),
     ((2, 2), (2, 2), (1, 2)),
 ];
 
-const PRINTED: [(i128, &str); 4] = [
+const PRINTED: &[(i128, &str)] = &[
     (50_000_000_001, "0.050000000001"),
     (-1, "-0.000000000001"),
     (-12_345_678_901_234, "-12.345678901234"),
     (MOST, "10000000.000000000000"),
 ];
 
-const READ: [(&str, Option<i128>); 10] = [
+const READ: &[(&str, Option<i128>)] = &[
     ("-0", Some(0)),
     ("007.5", Some(7_500_000_000_000)),
     ("10000000", Some(MOST)),
@@ -208,11 +208,11 @@ fn of_intervals<L: Ledger>(o: Operation, x: Iv, y: Iv, steps: &mut Steps<L>) -> 
 }
 
 fn points<L: Ledger>(rt: &impl Abort, steps: &mut Steps<L>) {
-    for (operation, a, b, want) in POINTS {
+    for &(operation, a, b, want) in POINTS {
         let (x, y) = (point(rt, a), point(rt, b));
         assert!(rt; of_points(operation, x, y, steps) == want, "{a} and {b}");
     }
-    for (a, k, want) in POWERS {
+    for &(a, k, want) in POWERS {
         assert!(rt; -17 <= k && k <= 16);
         assert!(rt; units(point(rt, a).pow(k, steps)) == want, "{a} to {k}");
     }
@@ -227,19 +227,19 @@ fn points<L: Ledger>(rt: &impl Abort, steps: &mut Steps<L>) {
 }
 
 fn intervals<L: Ledger>(rt: &impl Abort, steps: &mut Steps<L>) {
-    for (operation, a, b, want) in INTERVALS {
+    for &(operation, a, b, want) in INTERVALS {
         let (x, y) = (interval(rt, a), interval(rt, b));
         assert!(rt;
             of_intervals(operation, x, y, steps) == want,
             "{a:?} and {b:?}"
         );
     }
-    for (a, k, want) in INTERVAL_POWERS {
+    for &(a, k, want) in INTERVAL_POWERS {
         assert!(rt; -17 <= k && k <= 16);
         assert!(rt; ends(interval(rt, a).pow(k, steps)) == want, "{a:?} to {k}");
     }
     let (c, d) = (interval(rt, (1, 2)), interval(rt, (5, 6)));
-    for (a, b, picked) in PICKS {
+    for &(a, b, picked) in PICKS {
         let (x, y) = (interval(rt, a), interval(rt, b));
         assert!(rt;
             ends(Ok(Iv::pick(x, y, c, d, steps))) == Ok(picked),
@@ -250,7 +250,7 @@ fn intervals<L: Ledger>(rt: &impl Abort, steps: &mut Steps<L>) {
 }
 
 fn fractions<L: Ledger>(rt: &impl Abort, steps: &mut Steps<L>) {
-    for (n, d, down, both) in FRACTIONS {
+    for &(n, d, down, both) in FRACTIONS {
         assert!(rt; 0 < d && d <= PART && -PART <= n && n <= PART);
         assert!(rt;
             units(Fix::of_frac(Ratio { n, d }, steps)) == down,
@@ -279,10 +279,10 @@ fn operations_round_as_defined(rt: HostRuntime) {
 
 #[test]
 fn decimals_are_printed_and_read(rt: HostRuntime) {
-    for (units, text) in PRINTED {
+    for &(units, text) in PRINTED {
         assert_eq!(rt; print_decimal(point(&rt, units)).bytes(), text.as_bytes());
     }
-    for (text, want) in READ {
+    for &(text, want) in READ {
         let got = match read_decimal(text.as_bytes()) {
             Some(f) => Some(f.units()),
             None => None,

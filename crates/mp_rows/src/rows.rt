@@ -40,11 +40,21 @@ const EMPTY: Row<'static> = Row {
 };
 
 // The program is shown these words, and refuses them so.
-const WORDS: [(&[&str], u8, &[u8]); 9] = [
+const WORDS: &[(&[&str], u8, &[u8])] = &[
     (&[], 2, b"modpath: 2 Words word=1\n"),
     (&["m", "m"], 2, b"modpath: 2 Words word=1\n"),
     (&["transform"], 2, b"modpath: 2 Words word=2\n"),
     (&["transform", "m", "m"], 2, b"modpath: 2 Words word=3\n"),
+    (&[""], 2, b"modpath: 2 Words word=1\n"),
+    (&["expand", "m", "N"], 2, b"modpath: 2 Words word=3\n"),
+    (
+        &["expand", "m", "N=1", "var=1"],
+        2,
+        b"modpath: 2 Words word=4\n",
+    ),
+    (&["expand", "m", "true=1"], 2, b"modpath: 2 Words word=3\n"),
+    (&["expand", "m", "N=\""], 2, b"modpath: 2 Words word=3\n"),
+    (&["transform", "m", "1=2"], 2, b"modpath: 2 Words word=3\n"),
     (&["expand", "m", "var=1"], 2, b"modpath: 2 Words word=3\n"),
     (&["derive", "m"], 2, b"modpath: 2 Words word=1\n"),
     (&["transform", "-m"], 2, b"modpath: 2 Words word=2\n"),
@@ -62,7 +72,7 @@ const BOTH: &[u8] = b"@#include \"a\"\n@#include \"b\"";
 
 // Definitions in the words, files that are included, a text that is transformed once it is expanded, and faults of the
 // outside.
-const ROWS: [Row<'static>; 7] = [
+const ROWS: &[Row<'static>] = &[
     Row {
         words: &["expand", "m", "N=2"],
         text: b"x@{N+1} // @{N}",
@@ -190,7 +200,7 @@ fn texts_are_expanded_transformed_or_refused(rt: HostRuntime) -> Result<(), Fail
 
 #[test]
 fn words_files_and_faults_have_their_answers(rt: HostRuntime) -> Result<(), Fail> {
-    for (words, status, err) in WORDS {
+    for &(words, status, err) in WORDS {
         let row = Row {
             words,
             status,
@@ -200,7 +210,7 @@ fn words_files_and_faults_have_their_answers(rt: HostRuntime) -> Result<(), Fail
         answers(&rt, rt.alloc(), &row)?;
     }
     for row in ROWS {
-        answers(&rt, rt.alloc(), &row)?;
+        answers(&rt, rt.alloc(), row)?;
     }
     Ok(())
 }
@@ -243,7 +253,7 @@ fn a_side_is_500_nodes_high_at_most(rt: HostRuntime) -> Result<(), Fail> {
 }
 
 // Files of so many blanks on one line: the line's newline is a byte of the expanded text.
-const BLANKS: [(usize, u8, &[u8]); 3] = [
+const BLANKS: &[(usize, u8, &[u8])] = &[
     (
         8_388_607,
         6,
@@ -263,7 +273,7 @@ const BLANKS: [(usize, u8, &[u8]); 3] = [
 
 #[test]
 fn a_file_and_its_text_may_have_8388608_bytes(rt: HostRuntime) -> Result<(), Fail> {
-    for (size, status, err) in BLANKS {
+    for &(size, status, err) in BLANKS {
         let text = vec![in rt.alloc(); b' '; size]?;
         let row = Row {
             words: &["transform", "m"],

@@ -1,24 +1,14 @@
-// The lines as they are read by a person.
-use mp_base::{DataKind, GuessFault, Label, LooseKind, NotSolved, Outcome, Ratio, Stage, TextKind};
+// The lines of outcomes that no job reaches yet, as they are read by a person.
+use mp_base::{GuessFault, Label, LooseKind, NotSolved, Outcome, Stage};
 use mp_outside::{Calls, MemSink};
 use mp_tell::tell;
 use std::test::Fail;
 
 #[test]
 fn lines_are_those_of_the_format(rt: HostRuntime) -> Result<(), Fail> {
-    let first = Ratio { n: -1, d: 2 };
-    let second = Ratio { n: 16, d: 1 };
     let stage = Stage::Path;
     let bound = 1_085_069_444_445;
     let rows = [
-        (
-            Outcome::Text {
-                kind: TextKind::Token,
-                at: 18,
-                token: Label::of(b"exp"),
-            },
-            b"modpath: 5 Text kind=Token at=18 token=exp\n".as_slice(),
-        ),
         (
             Outcome::NotSolved(NotSolved::StepLimit {
                 stage,
@@ -28,15 +18,6 @@ fn lines_are_those_of_the_format(rt: HostRuntime) -> Result<(), Fail> {
                 bound,
             }),
             b"modpath: 1 StepLimit stage=path steps=2 equation=1 period=1 bound=1.085069444445\n".as_slice(),
-        ),
-        (
-            Outcome::Data {
-                kind: DataKind::Exponent,
-                at: 46,
-                first,
-                second,
-            },
-            b"modpath: 7 Data kind=Exponent at=46 first=-1/2 second=16\n".as_slice(),
         ),
         (
             Outcome::Guess(GuessFault::SignUnknown {

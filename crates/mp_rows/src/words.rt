@@ -2,7 +2,7 @@
 
 use mp_base::{Job, NoMemory, WordList};
 use mp_mexpr::Value;
-use mp_words::{WordFault, read_words};
+use mp_words::read_words;
 use std::alloc::Global;
 use std::test::Fail;
 
@@ -30,28 +30,5 @@ fn words_are_a_job_a_file_and_definitions(rt: HostRuntime) -> Result<(), Fail> {
     assert_eq!(rt; defines.len(), 3);
     assert!(rt; matches!(defines[0].value, Value::Whole(-2)));
     assert!(rt; matches!(defines[2].value, Value::Truth(true)));
-    Ok(())
-}
-
-#[test]
-fn the_first_wrong_word_is_named(rt: HostRuntime) -> Result<(), Fail> {
-    let rows = [
-        ([""].as_slice(), 1),
-        (&["transform"], 2),
-        (&["transform", "-m"], 2),
-        (&["expand", "m", "N"], 3),
-        (&["expand", "m", "N=1", "var=1"], 4),
-        (&["expand", "m", "true=1"], 3),
-        (&["expand", "m", "N=\""], 3),
-        (&["transform", "m", "1=2"], 3),
-    ];
-    for (given, word) in rows.iter() {
-        let words = list_of(rt.alloc(), *given)?;
-        let wrong = match read_words(rt.alloc(), &words) {
-            Err(WordFault::Refused { word }) => word,
-            _ => 0,
-        };
-        assert_eq!(rt; wrong, *word);
-    }
     Ok(())
 }
