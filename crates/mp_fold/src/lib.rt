@@ -13,6 +13,3 @@ pub use assign::assign_values;
 pub use fault::FoldFault;
 pub use powers::{exponent_value, exponents};
 pub use sums::{atom_value, value_of};
-
-#[cfg(test)]
-mod tests;

@@ -10,8 +10,6 @@ mod natural;
 mod order;
 mod product;
 mod sum;
-#[cfg(test)]
-mod tests;
 mod wide;
 
 pub use fault::FracFault;

@@ -8,6 +8,3 @@ pub mod statement;
 
 pub use fault::ParseFault;
 pub use parser::parse;
-
-#[cfg(test)]
-mod tests;

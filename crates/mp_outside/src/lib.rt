@@ -63,6 +63,3 @@ pub fn write_whole<S: Sink>(sink: &mut S, bytes: &[u8]) -> Result<(), WriteFault
     }
     Ok(())
 }
-
-#[cfg(test)]
-mod tests;

@@ -10,6 +10,3 @@ pub mod sum;
 pub use equation::sides_of;
 pub use fault::ModelFault;
 pub use file::model;
-
-#[cfg(test)]
-mod tests;

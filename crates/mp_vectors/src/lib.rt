@@ -55,6 +55,18 @@ pub const TRANSFORMED: &[Row] = &[
         out: b"var x;\nparameters a;\na = 3;\nmodel;\nx^3 = x^(-3);\nend;\n",
         err: b"",
     },
+    Row {
+        text: b"var x; parameters a b c d e f g h; a = 0.5+.25; b = 0.5-2; c = 1.5*4; d = 1/3; e = 2^-3; f = 2^16; g = 0^0; h = min(2,1); model; x = 1; end;",
+        status: 0,
+        out: b"var x;\nparameters a b c d e f g h;\na = 3/4;\nb = -3/2;\nc = 6;\nd = 1/3;\ne = 1/8;\nf = 65536;\ng = 1;\nh = 1;\nmodel;\nx = 1;\nend;\n",
+        err: b"",
+    },
+    Row {
+        text: b"var a b d e f g h i k; parameters c; c = -1/20; model; (a)-(b-c) = (a-b)-c; (a+b)*c = -(-a); a*(-b) = a+((-b)*c); a/(b*c) = (a/b)/c; (-a)^2 = -(a^2); a^-2 = min((a),(b+c)); max(.050,1.50) = 1.2e3; .7 = 0.70; a(-1) = b(+1); end;",
+        status: 0,
+        out: b"var a b d e f g h i k;\nparameters c;\nc = -1/20;\nmodel;\na-(b-c) = a-b-c;\n(a+b)*c = -(-a);\na*(-b) = a+(-b*c);\na/(b*c) = a/b/c;\n(-a)^2 = -a^2;\na^(-2) = min(a,b+c);\nmax(0.05,1.5) = 1200;\n0.7 = 0.7;\na(-1) = b(+1);\nend;\n",
+        err: b"",
+    },
 ];
 
 /// What `transform m` refuses.
@@ -166,6 +178,90 @@ pub const REFUSED: &[Row] = &[
         status: 7,
         out: b"",
         err: b"modpath: 7 Data kind=ShiftFar at=28 first=25 second=24\n",
+    },
+    Row {
+        text: b"var x x; model; x = 1; end;",
+        status: 6,
+        out: b"",
+        err: b"modpath: 6 Declared kind=Twice name=x at=6\n",
+    },
+    Row {
+        text: b"var x; model; x = 1; end; model; x = 2; end;",
+        status: 6,
+        out: b"",
+        err: b"modpath: 6 Declared kind=BlockTwice name=model at=26\n",
+    },
+    Row {
+        text: b"var x; model; x = y; end;",
+        status: 6,
+        out: b"",
+        err: b"modpath: 6 Declared kind=Undeclared name=y at=18\n",
+    },
+    Row {
+        text: b"var x; model; x = x(-2); end;",
+        status: 6,
+        out: b"",
+        err: b"modpath: 6 Declared kind=LongShift name=x at=18\n",
+    },
+    Row {
+        text: b"var x;",
+        status: 6,
+        out: b"",
+        err: b"modpath: 6 Declared kind=NoModel name= at=7\n",
+    },
+    Row {
+        text: b"model; end;",
+        status: 6,
+        out: b"",
+        err: b"modpath: 6 Declared kind=Empty name= at=12\n",
+    },
+    Row {
+        text: b"varexo e; model; 1 = e; end;",
+        status: 6,
+        out: b"",
+        err: b"modpath: 6 Declared kind=Empty name= at=29\n",
+    },
+    Row {
+        text: b"var x; model; end;",
+        status: 6,
+        out: b"",
+        err: b"modpath: 6 Declared kind=EquationCount name= at=19\n",
+    },
+    Row {
+        text: b"var x y; model; x = 1; end;",
+        status: 6,
+        out: b"",
+        err: b"modpath: 6 Declared kind=EquationCount name= at=28\n",
+    },
+    Row {
+        text: b"var x y; model; x = 1e38; end;",
+        status: 6,
+        out: b"",
+        err: b"modpath: 6 Declared kind=EquationCount name= at=31\n",
+    },
+    Row {
+        text: b"var x; parameters a; a = 1e38+1; model; x = a; end;",
+        status: 7,
+        out: b"",
+        err: b"modpath: 7 Data kind=Literal at=25 first=0 second=37\n",
+    },
+    Row {
+        text: b"var x; parameters a; a = 0^-1; model; x = 1; end;",
+        status: 7,
+        out: b"",
+        err: b"modpath: 7 Data kind=ZeroDivisor at=26 first=0 second=-1\n",
+    },
+    Row {
+        text: b"var x; parameters a; a = 2^-17; model; x = 1; end;",
+        status: 7,
+        out: b"",
+        err: b"modpath: 7 Data kind=Exponent at=26 first=-17 second=16\n",
+    },
+    Row {
+        text: b"var x; parameters a; a = 2^0.5; model; x = 1; end;",
+        status: 7,
+        out: b"",
+        err: b"modpath: 7 Data kind=Exponent at=26 first=1/2 second=16\n",
     },
 ];
 

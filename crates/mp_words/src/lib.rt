@@ -5,6 +5,3 @@ pub mod define;
 pub mod words;
 
 pub use words::{WordFault, Words, read_words};
-
-#[cfg(test)]
-mod tests;

@@ -1,0 +1,288 @@
+// Whole runs over files and sinks in memory: what each writes and tells was worked out by hand from the formats.
+ghost use Rattle.std.specs.Prelude.{◌≡◌, ◌<◌};
+
+use mp_base::{NoMemory, Outcome, Steps, WordList};
+use mp_outside::{Calls, Listing, MemFiles, MemSink};
+use mp_run::run;
+use mp_vectors::{EXPANDED, REFUSED, TRANSFORMED};
+use std::alloc::Global;
+use std::marker::Brand;
+use std::process::Abort;
+use std::sync::ledger::{Blank, Ledger};
+use std::test::Fail;
+
+// What a run is tried on, and the status, the output and the fault line that it gives. The file is named m, and both a
+// and b hold the part; call number 0 never comes.
+#[derive(Clone, Copy)]
+struct Row<'a> {
+    words: &'a [&'a str],
+    text: &'a [u8],
+    part: &'a [u8],
+    failing_fetch: u64,
+    out_room: usize,
+    err_room: usize,
+    status: u8,
+    out: &'a [u8],
+    err: &'a [u8],
+}
+
+// An empty text is expanded, with ample room.
+const EMPTY: Row<'static> = Row {
+    words: &["expand", "m"],
+    text: b"",
+    part: b"",
+    failing_fetch: 0,
+    out_room: 512,
+    err_room: 512,
+    status: 0,
+    out: b"",
+    err: b"",
+};
+
+// The program is shown these words, and refuses them so.
+const WORDS: &[(&[&str], u8, &[u8])] = &[
+    (&[], 2, b"modpath: 2 Words word=1\n"),
+    (&["m", "m"], 2, b"modpath: 2 Words word=1\n"),
+    (&["transform"], 2, b"modpath: 2 Words word=2\n"),
+    (&["transform", "m", "m"], 2, b"modpath: 2 Words word=3\n"),
+    (&[""], 2, b"modpath: 2 Words word=1\n"),
+    (&["expand", "m", "N"], 2, b"modpath: 2 Words word=3\n"),
+    (
+        &["expand", "m", "N=1", "var=1"],
+        2,
+        b"modpath: 2 Words word=4\n",
+    ),
+    (&["expand", "m", "true=1"], 2, b"modpath: 2 Words word=3\n"),
+    (&["expand", "m", "N=\""], 2, b"modpath: 2 Words word=3\n"),
+    (&["transform", "m", "1=2"], 2, b"modpath: 2 Words word=3\n"),
+    (&["expand", "m", "var=1"], 2, b"modpath: 2 Words word=3\n"),
+    (&["derive", "m"], 2, b"modpath: 2 Words word=1\n"),
+    (&["transform", "-m"], 2, b"modpath: 2 Words word=2\n"),
+    (
+        &["transform", "nofile"],
+        3,
+        b"modpath: 3 Absent name=nofile\n",
+    ),
+    (&["expand", "nofile"], 3, b"modpath: 3 Absent name=nofile\n"),
+];
+
+const DOUBLED: &[u8] = b"var x; model; x = 2*x(-1); end;";
+
+const BOTH: &[u8] = b"@#include \"a\"\n@#include \"b\"";
+
+// Definitions in the words, files that are included, a text that is transformed once it is expanded, and faults of the
+// outside.
+const ROWS: &[Row<'static>] = &[
+    Row {
+        words: &["expand", "m", "N=2"],
+        text: b"x@{N+1} // @{N}",
+        out: b"x3 // @{N}\n",
+        ..EMPTY
+    },
+    Row {
+        text: BOTH,
+        part: b"p",
+        out: b"p\np\n",
+        ..EMPTY
+    },
+    Row {
+        text: BOTH,
+        part: b"p",
+        failing_fetch: 3,
+        status: 11,
+        err: b"modpath: 11 ReadFault count=1\n",
+        ..EMPTY
+    },
+    Row {
+        words: &["transform", "m"],
+        text: b"@#define N = 2\nvar x; model; x = @{N}*x(-1); end;",
+        out: b"var x;\nmodel;\nx = 2*x(-1);\nend;\n",
+        ..EMPTY
+    },
+    Row {
+        words: &["transform", "m"],
+        text: DOUBLED,
+        out_room: 10,
+        status: 12,
+        out: b"var x;\nmod",
+        err: b"modpath: 12 WriteFault count=1\n",
+        ..EMPTY
+    },
+    Row {
+        words: &["transform", "m"],
+        text: DOUBLED,
+        failing_fetch: 1,
+        status: 11,
+        err: b"modpath: 11 ReadFault count=1\n",
+        ..EMPTY
+    },
+    Row {
+        words: &["transform", "m"],
+        text: b"var @",
+        err_room: 7,
+        status: 5,
+        err: b"modpath",
+        ..EMPTY
+    },
+];
+
+// What came of a run.
+#[derive(Drop)]
+struct Came {
+    outcome: Outcome,
+    out: MemSink,
+    err: MemSink,
+}
+
+// The run of a row with ample memory, over a ledger for the count of steps.
+fn came_of<L: Ledger>(alloc: Global, row: &Row, blank: Blank) -> Result<Came, NoMemory>
+    requires name { blank.name ≡ L.name }
+    requires parts { blank.parts ≡ L.parts }
+    requires some { 0 < blank.parts }
+{
+    let mut words = WordList::new(alloc);
+    for word in row.words {
+        if words.count() < 9 {
+            words.add(*word)?;
+        }
+    }
+    let mut listing = Listing::new(alloc);
+    listing.add(b"m", row.text)?;
+    listing.add(b"a", row.part)?;
+    listing.add(b"b", row.part)?;
+    let mut failing = Calls::new(alloc);
+    failing.add(row.failing_fetch)?;
+    let mut files = MemFiles::new(listing, failing);
+    let mut out = MemSink::with_room(alloc, row.out_room, Calls::new(alloc))?;
+    let mut err = MemSink::with_room(alloc, row.err_room, Calls::new(alloc))?;
+    let mut steps = Steps::<L>::start(blank);
+    let outcome = run(alloc, &words, &mut files, &mut out, &mut err, &mut steps);
+    Ok(Came { outcome, out, err })
+}
+
+// The run of the row answers, writes and tells what it wants.
+fn answers(rt: &impl Abort, alloc: Global, row: &Row) -> Result<(), NoMemory> {
+    let came = came_of::<Brand>(alloc, row, Blank::new(1))?;
+    assert_eq!(rt; came.outcome.code(), row.status);
+    assert_eq!(rt; came.out.taken(), row.out);
+    assert_eq!(rt; came.err.taken(), row.err);
+    Ok(())
+}
+
+// The worked runs of a job on the file m.
+fn worked(
+    rt: &impl Abort,
+    alloc: Global,
+    words: &[&str],
+    rows: &[mp_vectors::Row],
+) -> Result<(), NoMemory> {
+    for row in rows {
+        let row = Row {
+            words,
+            text: row.text,
+            status: row.status,
+            out: row.out,
+            err: row.err,
+            ..EMPTY
+        };
+        answers(rt, alloc, &row)?;
+    }
+    Ok(())
+}
+
+#[test]
+fn texts_are_expanded_transformed_or_refused(rt: HostRuntime) -> Result<(), Fail> {
+    worked(&rt, rt.alloc(), &["transform", "m"], TRANSFORMED)?;
+    worked(&rt, rt.alloc(), &["transform", "m"], REFUSED)?;
+    worked(&rt, rt.alloc(), &["expand", "m"], EXPANDED)?;
+    Ok(())
+}
+
+#[test]
+fn words_files_and_faults_have_their_answers(rt: HostRuntime) -> Result<(), Fail> {
+    for &(words, status, err) in WORDS {
+        let row = Row {
+            words,
+            status,
+            err,
+            ..EMPTY
+        };
+        answers(&rt, rt.alloc(), &row)?;
+    }
+    for row in ROWS {
+        answers(&rt, rt.alloc(), row)?;
+    }
+    Ok(())
+}
+
+// A sum of this many terms between these bytes.
+fn sum_of(alloc: Global, front: &[u8], terms: u32, back: &[u8]) -> Result<Vec<u8>, NoMemory> {
+    let mut text = Vec::new(alloc);
+    text.extend_from_slice(front)?;
+    for _ in 1..terms {
+        text.extend_from_slice(b"+x")?;
+    }
+    text.extend_from_slice(back)?;
+    Ok(text)
+}
+
+// A side that is a sum of 500 terms is printed, and one of 501 is refused.
+#[test]
+fn a_side_is_500_nodes_high_at_most(rt: HostRuntime) -> Result<(), Fail> {
+    let alloc = rt.alloc();
+    let low = sum_of(alloc, b"var x; model; x = x", 500, b"; end;")?;
+    let printed = sum_of(alloc, b"var x;\nmodel;\nx = x", 500, b";\nend;\n")?;
+    let row = Row {
+        words: &["transform", "m"],
+        text: low.as_slice(),
+        out: printed.as_slice(),
+        out_room: 2048,
+        ..EMPTY
+    };
+    answers(&rt, alloc, &row)?;
+    let high = sum_of(alloc, b"var x; model; x = x", 501, b"; end;")?;
+    let row = Row {
+        text: high.as_slice(),
+        status: 7,
+        out: b"",
+        err: b"modpath: 7 Data kind=TooDeep at=0 first=501 second=500\n",
+        ..row
+    };
+    answers(&rt, alloc, &row)?;
+    Ok(())
+}
+
+// Files of so many blanks on one line: the line's newline is a byte of the expanded text.
+const BLANKS: &[(usize, u8, &[u8])] = &[
+    (
+        8_388_607,
+        6,
+        b"modpath: 6 Declared kind=NoModel name= at=8388608\n",
+    ),
+    (
+        8_388_608,
+        4,
+        b"modpath: 4 Macro kind=TextLimit file=m line=1\n",
+    ),
+    (
+        8_388_609,
+        4,
+        b"modpath: 4 Macro kind=FileLong file=m line=0\n",
+    ),
+];
+
+#[test]
+fn a_file_and_its_text_may_have_8388608_bytes(rt: HostRuntime) -> Result<(), Fail> {
+    for &(size, status, err) in BLANKS {
+        let text = vec![in rt.alloc(); b' '; size]?;
+        let row = Row {
+            words: &["transform", "m"],
+            text: text.as_slice(),
+            status,
+            err,
+            ..EMPTY
+        };
+        answers(&rt, rt.alloc(), &row)?;
+    }
+    Ok(())
+}
