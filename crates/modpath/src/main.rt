@@ -5,7 +5,7 @@ ghost use Rattle.std.specs.Prelude.{◌≡◌, ◌<◌, MatchResult};
 ghost use Rattle.mp_tell.specs.Lines.{HasReduced};
 
 use mp_base::{Outcome, Steps, WordList};
-use mp_outside::{RealFiles, RealSink, Stream};
+use mp_outside::{RealFiles, RealSink};
 use std::env;
 use std::io::ErrorKind;
 use std::marker::Brand;
@@ -24,7 +24,7 @@ fn outcome_of<L: Ledger>(rt: HostRuntime, blank: Blank) -> Outcome
     requires parts { blank.parts ≡ L.parts }
     requires some { 0 < blank.parts }
 {
-    let mut err = RealSink::new(rt, Stream::Err);
+    let mut err = RealSink::new(rt.stderr());
     let words = match words_of(&rt) {
         Ok(words) => words,
         Err(outcome) => {
@@ -33,7 +33,7 @@ fn outcome_of<L: Ledger>(rt: HostRuntime, blank: Blank) -> Outcome
         }
     };
     let mut files = RealFiles::new(rt);
-    let mut out = RealSink::new(rt, Stream::Out);
+    let mut out = RealSink::new(rt.stdout());
     let mut steps = Steps::<L>::start(blank);
     mp_run::run(
         rt.alloc(),
