@@ -2,7 +2,7 @@
 #![tactic(auto)]
 
 ghost use Rattle.std.specs.Prelude.{◌≡◌, ◌≤◌, ◌<◌, List, ℕ, Option, length};
-ghost use Rattle.mp_outside.specs.Outside.{Outside, Held, Later, FetchSays, PutSays, Written};
+ghost use Rattle.mp_outside.specs.Outside.{Outside, Held, Later, FetchSays, FetchCounts, PutSays, Written};
 
 use mp_base::Bytes;
 
@@ -12,7 +12,7 @@ pub mod real;
 
 pub use fetched::{Fetched, Put, WriteFault};
 pub use memory::{Calls, Listing, MemFiles, MemSink};
-pub use real::{RealFiles, RealSink, Stream};
+pub use real::{RealFiles, RealSink, refused};
 
 /// Files by name. What a run knows of them is an `Outside`: their listing where it is told, and counts that never fall.
 pub trait Files {
@@ -22,7 +22,8 @@ pub trait Files {
     /// Puts the bytes under this name into `into`, at most `limit` of them; after another answer than `Got` it is empty.
     fn fetch(&mut self, name: &[u8], limit: u64, into: &mut Bytes) -> Fetched
         ensures later { Later (outside self.old) (outside self.new) }
-        ensures says { FetchSays (outside self.old) (outside self.new) name.now limit into.new result };
+        ensures says { FetchSays (outside self.old) (outside self.new) name.now limit into.new result }
+        ensures counts { FetchCounts (outside self.old) (outside self.new) into.new result };
 
     /// How many calls have failed. The count stays at its greatest value.
     fn faults(&self) -> u64
@@ -52,12 +53,7 @@ pub fn write_whole<S: Sink>(sink: &mut S, bytes: &[u8]) -> Result<(), WriteFault
     let mut at: usize = 0;
     'pieces: while at < bytes.len() {
         match sink.put(&bytes[at..]) {
-            Put::Took(n) => {
-                if n == 0 {
-                    return Err(WriteFault);
-                }
-                at += n;
-            }
+            Put::Took(n) => at += n,
             Put::WriteFault => return Err(WriteFault),
         }
     }

@@ -1,14 +1,29 @@
-// Files and streams of the system. They tell nothing of contents.
-ghost use Rattle.std.specs.Prelude.{◌≡◌, [], None, List, ℕ};
-ghost use Rattle.mp_outside.specs.Outside.{Later, Rose, FetchSays};
-ghost use Rattle.mp_outside.specs.Real.{seen, held_by};
+// Files and streams of the system: readers and writers of std, and counts of what fails.
+ghost use Rattle.std.specs.Prelude.{◌≡◌, ◌↔◌, ◌≤◌, [], None, List, ℕ, MatchResult};
+ghost use Rattle.std.specs.IoError.{error_kind};
+ghost use Rattle.mp_outside.specs.Outside.{Later, FetchSays, FetchCounts, PutSays};
+ghost use Rattle.mp_outside.specs.Real.{seen, held_by, writer_of, refusal, TakesNothing, Reads, PutTakes};
 
 use crate::{Fetched, Files, Put, Sink};
 use mp_base::Bytes;
 use std::fs::File;
-use std::io::{ErrorKind, Print, Read};
+use std::io;
+use std::io::{ErrorKind, Read, Write};
 
 const PIECE: usize = 8_192;
+
+/// The answer where a file cannot be opened: Absent exactly where it was not found.
+pub fn refused(kind: ErrorKind) -> Fetched
+    ensures answer { result ≡ refusal kind }
+    ensures nothing { TakesNothing result }
+    ensures absent { (result ≡ Fetched.Absent) ↔ (kind ≡ ErrorKind.NotFound) }
+{
+    match kind {
+        ErrorKind::NotFound => Fetched::Absent,
+        ErrorKind::OutOfMemory => Fetched::NoMemory,
+        _ => Fetched::ReadFault,
+    }
+}
 
 /// The files of the system, read in pieces. A name that is not UTF-8 is a fault of the call.
 #[derive(Drop)]
@@ -32,39 +47,64 @@ impl RealFiles {
         }
     }
 
-    // A call that fails.
-    fn fault(&mut self) -> Fetched
-        ensures answer { result ≡ Fetched.ReadFault }
+    /// Puts what a reader has left into `into`, as `fetch` does, or answers why it was not opened.
+    pub fn fetch_opened<R: Read + Drop>(
+        &mut self,
+        opened: io::Result<R>,
+        limit: u64,
+        into: &mut Bytes,
+    ) -> Fetched
         ensures later { Later (seen self.old) (seen self.new) }
-        ensures rose { Rose self.old.faults self.new.faults }
+        ensures says { (name : List ℕ) → FetchSays (seen self.old) (seen self.new) name limit into.new result }
+        ensures counts { FetchCounts (seen self.old) (seen self.new) into.new result }
+        ensures reads { MatchResult opened (λ r. Reads (R.remaining r) limit into.new result) (λ e. result ≡ refusal (error_kind e)) }
     {
-        self.faults = self.faults.saturating_add(1);
-        Fetched::ReadFault
+        into.clear();
+        self.took = 0;
+        match opened {
+            Ok(mut reader) => self.read_whole(&mut reader, limit, into),
+            Err(error) => self.count(refused(error.kind())),
+        }
     }
 
-    // Reads the file to its end, or past the limit.
-    fn read_to(&mut self, file: &mut File, limit: u64, into: &mut Bytes) -> Fetched
+    // Counts the answer where nothing was taken.
+    fn count(&mut self, answer: Fetched) -> Fetched
+        requires none { self.old.took ≡ 0 }
+        ensures answer { result ≡ answer }
+        ensures later { Later (seen self.old) (seen self.new) }
+        ensures counts { FetchCounts (seen self.old) (seen self.new) [] result }
+    {
+        match answer {
+            Fetched::Absent => self.absents = self.absents.saturating_add(1),
+            Fetched::ReadFault => self.faults = self.faults.saturating_add(1),
+            _ => {}
+        }
+        answer
+    }
+
+    // Reads to the end, or past the limit.
+    fn read_whole<R: Read>(&mut self, reader: &mut R, limit: u64, into: &mut Bytes) -> Fetched
         requires empty { into.old ≡ [] }
         requires begun { self.old.took ≡ 0 }
         ensures later { Later (seen self.old) (seen self.new) }
         ensures says { (name : List ℕ) → FetchSays (seen self.old) (seen self.new) name limit into.new result }
+        ensures counts { FetchCounts (seen self.old) (seen self.new) into.new result }
+        ensures reads { Reads (R.remaining reader.old) limit into.new result }
     {
         let mut piece = [0u8; PIECE];
-        'pieces: for _ in 0..u64::MAX {
-            let Ok(n) = file.read(&mut piece) else {
+        'pieces: loop {
+            let Ok(n) = reader.read(&mut piece) else {
                 into.clear();
-                return self.fault();
+                return self.count(Fetched::ReadFault);
             };
+            let took = into.as_slice().len() as u64 + n as u64;
             if n == 0 {
+                self.took = took;
                 return Fetched::Got;
             }
-            let Some(took) = self.took.checked_add(n as u64) else {
-                into.clear();
-                return self.fault();
-            };
-            self.took = took;
             if took > limit {
                 into.clear();
+                self.took = took;
                 return Fetched::TooLong;
             }
             if into.add(&piece[..n]).is_err() {
@@ -72,8 +112,6 @@ impl RealFiles {
                 return Fetched::NoMemory;
             }
         }
-        into.clear();
-        self.fault()
     }
 }
 
@@ -81,23 +119,13 @@ impl Files for RealFiles {
     ghost outside = { seen };
 
     fn fetch(&mut self, name: &[u8], limit: u64, into: &mut Bytes) -> Fetched {
-        into.clear();
-        self.took = 0;
         let Ok(name) = std::str::from_utf8(name) else {
-            return self.fault();
+            into.clear();
+            self.took = 0;
+            return self.count(Fetched::ReadFault);
         };
-        let mut file = match File::open(&self.rt, name) {
-            Ok(file) => file,
-            Err(error) => match error.kind() {
-                ErrorKind::NotFound => {
-                    self.absents = self.absents.saturating_add(1);
-                    return Fetched::Absent;
-                }
-                ErrorKind::OutOfMemory => return Fetched::NoMemory,
-                _ => return self.fault(),
-            },
-        };
-        self.read_to(&mut file, limit, into)
+        let opened = File::open(&self.rt, name);
+        self.fetch_opened(opened, limit, into)
     }
 
     fn faults(&self) -> u64 {
@@ -105,48 +133,38 @@ impl Files for RealFiles {
     }
 }
 
-/// The two streams of a program.
-#[derive(Clone, Copy, Debug, PartialEq, Eq)]
-pub enum Stream {
-    Out,
-    Err,
-}
-
-/// A stream of the system. A write that takes nothing of a piece is a fault.
+/// A writer, as a stream of the system. A write that takes nothing of a piece is a fault.
 #[derive(Drop)]
-pub struct RealSink {
-    rt: HostRuntime,
-    stream: Stream,
+pub struct RealSink<W> {
+    writer: W,
     faults: u64,
 }
 
-impl RealSink {
-    /// This stream of the runtime. No call was made yet.
-    pub fn new(rt: HostRuntime, stream: Stream) -> RealSink
-        ensures { held_by result ≡ record { taken = None; faults = 0 } }
+impl<W: Write> RealSink<W> {
+    /// A sink over this writer. No call was made yet.
+    pub fn new(writer: W) -> RealSink<W>
+        ensures held { held_by result ≡ record { taken = None; faults = 0 } }
+        ensures writer { writer_of result ≡ writer }
     {
-        RealSink {
-            rt,
-            stream,
-            faults: 0,
-        }
+        RealSink { writer, faults: 0 }
     }
 }
 
-impl Sink for RealSink {
+impl<W: Write> Sink for RealSink<W> {
     ghost held = { held_by };
 
-    fn put(&mut self, bytes: &[u8]) -> Put {
-        let written = match self.stream {
-            Stream::Out => self.rt.stdout().write_some(bytes),
-            Stream::Err => self.rt.stderr().write_some(bytes),
-        };
-        let n = written.unwrap_or(0);
-        if n == 0 && !bytes.is_empty() {
-            self.faults = self.faults.saturating_add(1);
-            return Put::WriteFault;
+    fn put(&mut self, bytes: &[u8]) -> Put
+        ensures later { (held_by self.old).faults ≤ (held_by self.new).faults }
+        ensures says { PutSays (held_by self.old) (held_by self.new) bytes.now result }
+        ensures takes { PutTakes (W.contents (writer_of self.old)) (W.contents (writer_of self.new)) bytes.now result }
+    {
+        match self.writer.write(bytes) {
+            Ok(n) if n > 0 || bytes.is_empty() => Put::Took(n),
+            _ => {
+                self.faults = self.faults.saturating_add(1);
+                Put::WriteFault
+            }
         }
-        Put::Took(n)
     }
 
     fn faults(&self) -> u64 {

@@ -1,8 +1,6 @@
-//! Tests of whole runs, and of what a run reads from and writes to.
+//! Tests of whole runs.
 #![tactic(auto)]
 
-#[cfg(test)]
-mod outside;
 #[cfg(test)]
 mod rows;
 #[cfg(test)]

@@ -1,6 +1,7 @@
 -- The fault line of each outcome.
-use Rattle.std.specs.Prelude.{ℕ, suc, ◌-◌, ◌/◌, ◌%◌, ◌^◌, List, [], ◌++◌, length, replicate, codes, decimal, ℤ, pos, negsuc, unsigned_abs, if◌then◌else◌, ◌==◌}
+use Rattle.std.specs.Prelude.{ℕ, List, [], ◌++◌, codes, decimal, unsigned_abs, if◌then◌else◌, ◌==◌}
 use Rattle.std.specs.Fmt.{signed_decimal}
+use Rattle.mp_base.specs.Decimals.{decimal_text}
 use Rattle.mp_base.specs.declared.span.Ratio.{Ratio}
 use Rattle.mp_base.specs.declared.outcome.Outcome.{Outcome}
 use Rattle.mp_base.specs.declared.outcome.Outcome.TheVariants.{Done, Refused}
@@ -10,14 +11,6 @@ use Rattle.mp_base.specs.declared.faults.NotSolved.TheVariants as n
 use Rattle.mp_base.specs.declared.faults.GuessFault.TheVariants as g
 use Rattle.mp_tell.specs.Names.{macro_name, text_name, decl_name, data_name, fault_name, stage_name, place_name, op_name, loose_name}
 
--- millionths of millionths, with 12 places after the point
-abbrev pub places : ℕ → List ℕ
-places n = decimal (n / 10 ^ 12) ++ codes "." ++ (replicate (12 - length (decimal (n % 10 ^ 12))) 48 ++ decimal (n % 10 ^ 12))
-
-abbrev pub units : ℤ → List ℕ
-units (pos n) = places n
-units (negsuc n) = codes "-" ++ places (suc n)
-
 -- n, or n/d
 abbrev pub fraction : Ratio → List ℕ
 fraction r = if unsigned_abs r.d == 1 then signed_decimal r.n else signed_decimal r.n ++ codes "/" ++ signed_decimal r.d
@@ -25,9 +18,9 @@ fraction r = if unsigned_abs r.d == 1 then signed_decimal r.n else signed_decima
 -- the line of a refusal
 abbrev pub refusal_line : Refusal → List ℕ
 refusal_line (r.NotSolved (n.StepLimit stage steps equation period bound)) =
-    codes "modpath: 1 StepLimit stage=" ++ stage_name stage ++ codes " steps=" ++ decimal steps ++ codes " equation=" ++ decimal equation ++ codes " period=" ++ decimal period ++ codes " bound=" ++ units bound ++ codes "\n"
+    codes "modpath: 1 StepLimit stage=" ++ stage_name stage ++ codes " steps=" ++ decimal steps ++ codes " equation=" ++ decimal equation ++ codes " period=" ++ decimal period ++ codes " bound=" ++ decimal_text bound ++ codes "\n"
 refusal_line (r.NotSolved (n.Pivot stage step slot period pivot)) =
-    codes "modpath: 1 Pivot stage=" ++ stage_name stage ++ codes " step=" ++ decimal step ++ codes " slot=" ++ slot ++ codes " period=" ++ decimal period ++ codes " pivot=" ++ units pivot ++ codes "\n"
+    codes "modpath: 1 Pivot stage=" ++ stage_name stage ++ codes " step=" ++ decimal step ++ codes " slot=" ++ slot ++ codes " period=" ++ decimal period ++ codes " pivot=" ++ decimal_text pivot ++ codes "\n"
 refusal_line (r.Words word) =
     codes "modpath: 2 Words word=" ++ decimal word ++ codes "\n"
 refusal_line (r.Absent name) =
@@ -45,11 +38,11 @@ refusal_line (r.Number f) =
 refusal_line (r.Guess (g.GuessLimit period name)) =
     codes "modpath: 9 GuessLimit period=" ++ decimal period ++ codes " name=" ++ name ++ codes "\n"
 refusal_line (r.Guess (g.SignUnknown period name low high)) =
-    codes "modpath: 9 SignUnknown period=" ++ decimal period ++ codes " name=" ++ name ++ codes " low=" ++ units low ++ codes " high=" ++ units high ++ codes "\n"
+    codes "modpath: 9 SignUnknown period=" ++ decimal period ++ codes " name=" ++ name ++ codes " low=" ++ decimal_text low ++ codes " high=" ++ decimal_text high ++ codes "\n"
 refusal_line (r.Guess (g.EndBinding name)) =
     codes "modpath: 9 EndBinding name=" ++ name ++ codes "\n"
 refusal_line (r.Loose kind equation period value) =
-    codes "modpath: 10 Loose kind=" ++ loose_name kind ++ codes " equation=" ++ decimal equation ++ codes " period=" ++ decimal period ++ codes " value=" ++ units value ++ codes "\n"
+    codes "modpath: 10 Loose kind=" ++ loose_name kind ++ codes " equation=" ++ decimal equation ++ codes " period=" ++ decimal period ++ codes " value=" ++ decimal_text value ++ codes "\n"
 refusal_line (r.ReadFault count) =
     codes "modpath: 11 ReadFault count=" ++ decimal count ++ codes "\n"
 refusal_line (r.WriteFault count) =
