@@ -8,7 +8,7 @@ use Rattle.mp_fix.specs.Units.{unit, most, floor, within}
 use Rattle.mp_fix.specs.Points.{product_down, difference_of}
 use Rattle.mp_elim.specs.declared.ElimFault.{ElimFault}
 use Rattle.mp_turns.specs.Turns.{and_then}
-use Rattle.mp_elim.specs.Elimination.{System, put, put_right, other, swapped, less_product, attempt}
+use Rattle.mp_elim.specs.Elimination.{System, put, put_right, other, swapped, less_product, attempt, lessened}
 
 times_zero : (a : ℤ) → a *ℤ pos 0 ≡ pos 0
 times_zero (pos n) = ap pos (omega arith)
@@ -39,6 +39,9 @@ zero_less_product j f = rw (product_with_zero f) refl
 pub less_no_product : (j : ℕ) (z x : ℤ) → unsigned_abs z ≤ most → less_product j z (pos 0) x ≡ Ok z
 less_no_product j z x h = rw (product_of_zero x, less_zero z, within_small z h) refl
 
+pub less_no_factor : (j : ℕ) (z a : ℤ) → unsigned_abs z ≤ most → less_product j z a (pos 0) ≡ Ok z
+less_no_factor j z a h = rw (product_with_zero a, less_zero z, within_small z h) refl
+
 -- what a test of two numbers chooses
 pub chosen_not : (b d : Bool) (x y : ℤ) → (b ≡ true → d ≡ true → x ≡ y) → cond (b && d) x y ≡ y
 chosen_not true true x y h = h refl refl
@@ -58,3 +61,19 @@ pub put_same : (s : System) (i k : ℕ) (x : ℤ) → s.at i k ≡ x → put s i
 put_same s i k x h =
     let e : (put s i k x).at ≡ s.at = fun_ext λ r. fun_ext λ c. put_other s i k x r c (λ p q. rw (p, q) h) in
     ap (λ (a : ℕ → ℕ → ℤ). let t : System = record { at = a; right = s.right } in t) e
+
+-- an entry less a product by 0 is put back as it was
+pub lessened_idle : (j i : ℕ) (f : ℤ) (k : ℕ) (s : System) → s.at j k ≡ pos 0 → unsigned_abs (s.at i k) ≤ most → lessened j i f k s ≡ Ok s
+lessened_idle j i f k s h l =
+    rw (h, less_no_factor j (s.at i k) f l) (ap (λ (t : System). let r : Result System ElimFault = Ok t in r) (put_same s i k (s.at i k) refl))
+
+other_same : (j r : ℕ) → other j j r ≡ r
+other_same j r = grind (arith, nat_tests)
+
+-- a row that changes places with itself
+pub swapped_same : (s : System) (j : ℕ) → swapped s j j ≡ s
+swapped_same s j =
+    let a : (swapped s j j).at ≡ s.at = fun_ext λ r. ap s.at (other_same j r) in
+    let b : (swapped s j j).right ≡ s.right = fun_ext λ r. ap s.right (other_same j r) in
+    ap (λ (f : ℕ → ℕ → ℤ). let t : System = record { at = f; right = (swapped s j j).right } in t) a
+    ∙ ap (λ (g : ℕ → ℤ). let t : System = record { at = s.at; right = g } in t) b

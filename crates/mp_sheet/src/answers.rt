@@ -26,9 +26,10 @@ fn rest_of<L: Ledger>(
     ensures value { result ≡ each (λ k z. less_product_of j z ((system_of s.now).at j k) ((system_of s.now).right k)) (j + 1) (past - (j + 1)) ((system_of s.now).right j) }
     ensures cost { steps.new ≤ steps.old + 2 * (past - (j + 1)) }
 {
+    let row = s.place(j, j);
     let mut z = s.right(j);
     for k in j + 1..past {
-        match less_product(j, z, s.get(j, k), s.right(k), steps) {
+        match less_product(j, z, s.get_from(row, j, j, k), s.right(k), steps) {
             Ok(y) => z = y,
             Err(e) => return Err(e),
         }

@@ -59,6 +59,7 @@ fn pivot(s: &Sheet, j: usize, low: usize) -> usize
 /// Rows `j` and `p` change places.
 fn exchange(s: &mut Sheet, j: usize, p: usize, past: usize)
     requires rows { (j < s.old.form.count) × (p < s.old.form.count) }
+    requires some { j < past }
     requires first { (k : ℕ) → j ≤ k → k < past → IsKept s.old.form j k }
     requires second { (k : ℕ) → j ≤ k → k < past → IsKept s.old.form p k }
     requires before { (k : ℕ) → k < j → ((system_of s.old).at j k ≡ pos 0) × ((system_of s.old).at p k ≡ pos 0) }
@@ -66,11 +67,16 @@ fn exchange(s: &mut Sheet, j: usize, p: usize, past: usize)
     ensures system { system_of s.new ≡ swapped (system_of s.old) j p }
     ensures form { s.new.form ≡ s.old.form }
 {
+    if p == j {
+        return;
+    }
+    let upper = s.place(j, j);
+    let lower = s.place(p, j);
     for k in j..past {
-        let first = s.get(j, k);
-        let other = s.get(p, k);
-        s.set(j, k, other);
-        s.set(p, k, first);
+        let first = s.get_from(upper, j, j, k);
+        let other = s.get_from(lower, p, j, k);
+        s.set_from(upper, j, j, k, other);
+        s.set_from(lower, p, j, k, first);
     }
     let first = s.right(j);
     let second = s.right(p);
