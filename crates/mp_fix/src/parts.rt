@@ -7,8 +7,11 @@ use mp_integer::Whole;
 
 // 10^12 = 2^12 * 5^12.
 const FIVES: u64 = 244_140_625;
+
 const WORD: u128 = 18_446_744_073_709_551_616;
+
 const MIDDLE: u64 = 68_719_476_736;
+
 const LOW: u64 = 268_435_456;
 
 /// n / 10^12: of n / 2^12, the bits from 64 on, the 36 below them and the last 28 are divided in turn by 5^12, each

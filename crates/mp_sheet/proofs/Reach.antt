@@ -1,8 +1,8 @@
 -- What a column reaches is kept, and how many operations it takes.
-use Rattle.std.proofs.Common.{◌≡◌, ℕ, ℤ, suc, ◌+◌, ◌-◌, ◌*◌, ◌/◌, ◌<◌, ◌≤◌, min, pos, Result, Ok, Err, refl, ap, sym, ◌∙◌, subst, arith, ◌⊎◌, inl, inr}
+use Rattle.std.proofs.Common.{◌≡◌, ℕ, ℤ, suc, ◌+◌, ◌-◌, ◌*◌, ◌/◌, ◌^◌, ◌<◌, ◌≤◌, min, pos, Result, Ok, Err, refl, ap, sym, ◌∙◌, subst, arith, ◌⊎◌, inl, inr}
 use Rattle.std.proofs.lemmas.Bool.{cases_lt}
 use Rattle.std.proofs.lemmas.Nat.{le-div}
-use Rattle.std.proofs.Math.Nat.{div-mul-le_self, lt-div-mul-add, div-lt_iff_lt-mul, mul-le-mul_right, mul-le-mul_left}
+use Rattle.std.proofs.Math.Nat.{div-mul-le_self, lt-div-mul-add, div-lt_iff_lt-mul, mul-le-mul_right, mul-le-mul_left, mul_assoc, mul_left_comm, mul-add, mul-one, pow-zero, pow-succ'}
 use Rattle.mp_elim.specs.declared.ElimFault.{ElimFault}
 use Rattle.mp_turns.specs.Turns.{each_down, and_then}
 use Rattle.mp_elim.specs.Elimination.{System}
@@ -90,3 +90,12 @@ cost_back n m j past start old new hp z p l a b =
     let c : 2 * (past - (j - 1)) ≤ 6 * n = rw hp (answer_cost n m (j - 1) z) in
     let e : m - (j - 1) ≡ (m - j) + 1 = omega arith in
     rw e (omega (arith, c))
+
+-- n times the operations of a row of n
+pub cube : (n : ℕ) → n * (12 * n * n + 6 * n) ≡ 12 * n ^ 3 + 6 * n ^ 2
+cube n =
+    let square : n ^ 2 ≡ n * n = pow-succ' n 1 ∙ ap (λ (x : ℕ). n * x) (pow-succ' n 0 ∙ (ap (λ (x : ℕ). n * x) (pow-zero n) ∙ mul-one n)) in
+    let all : n ^ 3 ≡ n * (n * n) = pow-succ' n 2 ∙ ap (λ (x : ℕ). n * x) square in
+    let first : n * (12 * n * n) ≡ 12 * (n * (n * n)) = ap (λ (x : ℕ). n * x) (mul_assoc 12 n n) ∙ mul_left_comm n 12 (n * n) in
+    let second : n * (6 * n) ≡ 6 * (n * n) = mul_left_comm n 6 n in
+    mul-add n (12 * n * n) (6 * n) ∙ omega (arith, square, all, first, second)
