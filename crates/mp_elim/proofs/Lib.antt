@@ -1,0 +1,6 @@
+pub mod Small
+pub mod Zeros
+pub mod Rows
+pub mod Columns
+pub mod Band
+pub mod Lists
