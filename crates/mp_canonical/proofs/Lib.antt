@@ -1,0 +1,12 @@
+pub mod Digits
+pub mod Literals
+pub mod Numbers
+pub mod Results
+pub mod Values
+pub mod Terms
+pub mod Names
+pub mod Meant
+pub mod Contents
+pub mod Tables
+pub mod Again
+pub mod Source

@@ -1,0 +1,5 @@
+pub mod Contents
+pub mod Files
+pub mod Numbers
+pub mod Printable
+pub mod Terms
