@@ -1,5 +1,5 @@
-pub mod Constant
-pub mod Folded
+pub mod Limits
 pub mod ModelOf
 pub mod Names
 pub mod Table
+pub mod Values
