@@ -1,0 +1,17 @@
+pub mod ReadLaws
+pub mod Looks
+pub mod Laws
+pub mod Kept
+pub mod Turns
+pub mod Begins
+pub mod Whole
+pub mod Moved
+pub mod Numbers
+pub mod Ones
+pub mod PieceLaws
+pub mod Leaves
+pub mod TextLaws
+pub mod Writings
+pub mod MadeLaws
+pub mod TokenForms
+pub mod TokenWords
