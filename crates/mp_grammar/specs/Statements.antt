@@ -9,16 +9,22 @@ use Rattle.mp_format.specs.Pieces.{IsName}
 use Rattle.mp_expressions.specs.Script.{bare_name, bare}
 use Rattle.mp_format.specs.Spelling.{Tree, FitsAll, FitsOpt}
 use Rattle.mp_expressions.specs.InForm.{InForm}
-use Rattle.mp_expressions.specs.Productions.{Whole, names, further_name, declares, assigns, item, model, statement, file}
-use Rattle.mp_grammar.specs.Levels.{expression}
+use Rattle.mp_expressions.specs.Productions.{Whole}
+use Rattle.mp_grammar.specs.Productions.{names, further_name, declares, assigns, item, model, statement, statements}
 
+-- an item without places
 abbrev pub bare_item : Item → Item
 bare_item x = record { left = bare x.left; right = option_map bare x.right }
 
+-- a statement without places
 abbrev pub bare_statement : Statement → Statement
 bare_statement (Declares kind names) = Declares kind (map bare_name names)
 bare_statement (Assigns name value) = Assigns (bare_name name) (bare value)
 bare_statement (Model at items) = Model 0 (map bare_item items)
+
+-- a file without places
+abbrev pub bare_file : List Statement → List Statement
+bare_file file = map bare_statement file
 
 -- at most 500 "(" are open at once
 abbrev pub IsExpression : Expr → Type 0
@@ -35,6 +41,10 @@ abbrev pub IsStatement : Statement → Type 0
 IsStatement (Declares kind names) = (0 < length names) × FitsAll IsNamed names
 IsStatement (Assigns name value) = IsNamed name × IsExpression value
 IsStatement (Model at items) = FitsAll IsItem items
+
+-- what a text may write, each name a name and each literal a number
+abbrev pub IsFile : List Statement → Type 0
+IsFile file = FitsAll IsStatement file
 
 -- the trees; no names are none
 abbrev pub further_tree : Named → Tree further_name
@@ -68,6 +78,6 @@ statement_tree e (Declares kind names) = inl (declares_tree kind names)
 statement_tree e (Assigns name value) = inr (inl (assigns_tree e name value))
 statement_tree e (Model at items) = inr (inr (model_tree e items))
 
-unfoldable pub file_tree : (e : Whole) → List Statement → Tree (file e)
-unfolding file
-file_tree e file = map (statement_tree e) file
+unfoldable pub statements_tree : (e : Whole) → List Statement → Tree (statements e)
+unfolding statements
+statements_tree e file = map (statement_tree e) file
