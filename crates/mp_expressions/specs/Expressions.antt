@@ -1,5 +1,5 @@
 -- Expressions as formats.
-use Rattle.std.specs.Prelude.{ℕ, List, [], ◌∷◌, Option, Some, None}
+use Rattle.std.specs.Prelude.{ℕ, Option, Some, None}
 use Rattle.mp_tokens.specs.declared.terminal.Terminal.TheVariants as t
 use Rattle.mp_tokens.specs.Tokens.{Tok}
 use Rattle.mp_syntax.specs.declared.operator.Sign.{Sign}
@@ -7,8 +7,8 @@ use Rattle.mp_syntax.specs.declared.operator.Sign.TheVariants as sign
 use Rattle.mp_syntax.specs.declared.operator.Operator.{Operator}
 use Rattle.mp_syntax.specs.declared.operator.Operator.TheVariants as operator
 use Rattle.mp_syntax.specs.declared.operator.Function.TheVariants as function
-use Rattle.mp_syntax.specs.Syntax.{Shift, Named, Expr, Number, Variable, Power, Paren, Call, Further, with_further, signed}
-use Rattle.mp_format.specs.Format.{Format, both, opt, many, via}
+use Rattle.mp_syntax.specs.Syntax.{Shift, Expr, Number, Variable, Power, Paren, Call, Further, with_further, signed}
+use Rattle.mp_format.specs.Format.{Format, opt, many}
 use Rattle.mp_format.specs.Notation.{of, ◌⊗◌, ◌▸◌, ◌◂◌, ◌∣◌, ◌⇒◌}
 use Rattle.mp_expressions.specs.Productions.{Whole, expr, named, sign_format, number}
 

@@ -1,17 +1,16 @@
 -- Expressions that a text may write, level by level, and how each is written as a tree.
-use Rattle.std.specs.Prelude.{◌≡◌, ℕ, zero, suc, List, [], ◌∷◌, ◌++◌, Bool, true, false, ◌==◌, ◌⊎◌, Option, Some, None, option_map}
+use Rattle.std.specs.Prelude.{ℕ, zero, suc, List, [], ◌∷◌, ◌++◌, Bool, true, false, ◌==◌, ◌⊎◌, Option, Some, None, option_map}
 use mathlib.Core.Logic.{inl, inr}
 use Rattle.mp_syntax.specs.declared.operator.Sign.{Sign}
 use Rattle.mp_syntax.specs.declared.operator.Sign.TheVariants as sign
 use Rattle.mp_tokens.specs.Tokens.{number_length, digits_length}
-use Rattle.mp_syntax.specs.declared.operator.Operator.{Operator}
 use Rattle.mp_syntax.specs.declared.operator.Operator.TheVariants as operator
 use Rattle.mp_syntax.specs.declared.operator.Function.TheVariants as function
-use Rattle.mp_syntax.specs.Syntax.{Shift, Named, Expr, Number, Variable, Signed, Binary, Power, Paren, Call}
+use Rattle.mp_syntax.specs.Syntax.{Shift, Expr, Number, Variable, Signed, Binary, Power, Paren, Call}
 use Rattle.mp_format.specs.Format.{Format}
 use Rattle.mp_format.specs.Pieces.{IsName, IsLiteral, AreDigits}
 use Rattle.mp_format.specs.Spelling.{Tree}
-use Rattle.mp_expressions.specs.Productions.{Whole, sign_format, number}
+use Rattle.mp_expressions.specs.Productions.{Whole}
 use Rattle.mp_expressions.specs.Expressions.{shift, fenced, closed, pair, flat_atom, atom, factor, times, product, plus, sum, power}
 
 -- over what its atoms are, a power, a factor, a product and a sum

@@ -1,5 +1,5 @@
 -- Names, numbers and signs as formats, and the place where an expression stands.
-use Rattle.std.specs.Prelude.{ℕ, List, [], ◌∷◌, Option, Some, None}
+use Rattle.std.specs.Prelude.{List, [], ◌∷◌}
 use Rattle.mp_tokens.specs.declared.terminal.Terminal.TheVariants as t
 use Rattle.mp_tokens.specs.Tokens.{Tok}
 use Rattle.mp_syntax.specs.declared.operator.Sign.{Sign}

@@ -1,5 +1,5 @@
 -- How an expression is written: without blanks, with the parentheses that it has.
-use Rattle.std.specs.Prelude.{◌≡◌, ℕ, List, [], ◌∷◌, ◌++◌, Bool, true, false, Option, Some, None, codes}
+use Rattle.std.specs.Prelude.{List, [], ◌∷◌, ◌++◌, Bool, true, false, Option, Some, None}
 use Rattle.mp_tokens.specs.declared.token.TokenKind.TheVariants as k
 use Rattle.mp_tokens.specs.declared.terminal.Terminal.TheVariants as t
 use Rattle.mp_syntax.specs.declared.operator.Sign.{Sign}

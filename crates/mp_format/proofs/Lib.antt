@@ -15,3 +15,6 @@ pub mod Writings
 pub mod MadeLaws
 pub mod TokenForms
 pub mod TokenWords
+pub mod Bares
+pub mod Stands
+pub mod Parts
