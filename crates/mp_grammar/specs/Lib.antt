@@ -1,0 +1,4 @@
+pub mod Levels
+pub mod Productions
+pub mod Statements
+pub mod Grammar
