@@ -10,3 +10,6 @@ pub mod Contents
 pub mod Tables
 pub mod Again
 pub mod Source
+pub mod Forms
+pub mod Places
+pub mod FileNames

@@ -5,6 +5,7 @@ use Rattle.mp_statements.specs.declared.kind.NameKind.{NameKind}
 use Rattle.mp_statements.specs.declared.kind.NameKind.TheVariants as kind
 use Rattle.mp_statements.specs.Statements.{Item, Statement, Declares, Assigns, Model}
 use Rattle.mp_semantics.specs.Model as m
+use Rattle.mp_grammar.specs.Grammar.{file_text}
 use Rattle.mp_values.specs.Names.{Names}
 use Rattle.mp_canonical.specs.Terms.{unplaced, canonical, canonical_value}
 use Rattle.mp_canonical.specs.Printable.{model_names}
@@ -30,3 +31,7 @@ equations_part ns (e ∷ es) = Model 0 (map (equation_part ns) (e ∷ es)) ∷ [
 abbrev pub canonical_file : m.Model → List Statement
 canonical_file M =
     names_part kind.Endogenous M.endogenous_names ++ (names_part kind.Exogenous M.exogenous_names ++ (names_part kind.Parameter (model_names M).parameters ++ (map value_part M.parameters ++ equations_part (model_names M) M.equations)))
+
+-- its text
+abbrev pub canonical_text : m.Model → List ℕ
+canonical_text M = file_text (canonical_file M)
