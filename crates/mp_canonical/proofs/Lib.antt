@@ -13,3 +13,4 @@ pub mod Source
 pub mod Forms
 pub mod Places
 pub mod FileNames
+pub mod Back
