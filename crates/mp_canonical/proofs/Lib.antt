@@ -14,3 +14,4 @@ pub mod Forms
 pub mod Places
 pub mod FileNames
 pub mod Back
+pub mod Texts
