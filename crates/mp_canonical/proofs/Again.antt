@@ -21,7 +21,7 @@ use Rattle.mp_canonical.proofs.Terms.{term_back}
 
 -- ---- what each part holds
 
-bare_names : (ns : List (List ℕ)) → map (λ (n : Named). n.name) (map unplaced ns) ≡ ns
+pub bare_names : (ns : List (List ℕ)) → map (λ (n : Named). n.name) (map unplaced ns) ≡ ns
 bare_names [] = refl
 bare_names (n ∷ ns) = ap (λ l. n ∷ l) (bare_names ns)
 

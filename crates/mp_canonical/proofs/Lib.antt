@@ -15,3 +15,4 @@ pub mod Places
 pub mod FileNames
 pub mod Back
 pub mod Texts
+pub mod Lines

@@ -1,5 +1,6 @@
 -- The texts of expressions and of the lines of a file, part by part.
 use Rattle.std.specs.Prelude.{ℕ, List, [], ◌∷◌, ◌++◌, Option, Some, None, codes}
+use Rattle.std.specs.List.{flat_map}
 use Rattle.mp_syntax.specs.declared.operator.Sign.{Sign}
 use Rattle.mp_syntax.specs.declared.operator.Sign.TheVariants as sign
 use Rattle.mp_syntax.specs.declared.operator.Operator.{Operator}
@@ -69,3 +70,7 @@ name_text name = 32 ∷ name
 abbrev pub right_text : Option Expr → List ℕ
 right_text None = []
 right_text (Some e) = codes " = " ++ spelled e
+
+-- the lines of these statements
+abbrev pub lines_of : List Statement → List ℕ
+lines_of file = flat_map statement_text file
