@@ -1,0 +1,36 @@
+-- An expression that holds others shows them.
+use Rattle.std.proofs.Common.{◌≡◌, List, ◌∷◌, Option, map, refl, ap, rules}
+use Rattle.mp_syntax.specs.Syntax as s
+use Rattle.mp_syntax.specs.declared.operator.Sign.{Sign}
+use Rattle.mp_syntax.specs.declared.operator.Function.{Function}
+use Rattle.mp_file.specs.declared.Expression.{Expression, Row_of-Further, items-the_row-Further, end_of-Further, more_of-Further}
+use Rattle.mp_file.specs.declared.Expression.TheVariants.{Signed, Chain, Power, Paren, Call}
+use Rattle.mp_file.specs.declared.Expression.TheViews.{the_lemmas}
+use Rattle.mp_file.specs.declared.Further.{Further}
+use Rattle.mp_file.specs.Shown.{expr_of, further_of, further_row}
+
+pub further_rows : (n : _) (row : Row_of-Further n) → further_row row ≡ map further_of (items-the_row-Further n row)
+further_rows _ end_of-Further = refl
+further_rows _ (more_of-Further op at operand rest) = ap (λ l. record { op = op; at = at; operand = expr_of operand } ∷ l) (further_rows _ rest)
+
+pub signed_view : (sign : Sign) (a : Expression) → expr_of (Signed sign a) ≡ s.Signed sign (expr_of a)
+unfolding Rattle.mp_file.specs.declared.Expression.TheBlock.hidden-the_row-Expression-0 denote.Hole.Carrier.hidden
+signed_view sign a = search (rules, the_lemmas)
+
+pub chain_view : (a : Expression) (more : List Further) → expr_of (Chain a more) ≡ s.with_further (expr_of a) (map further_of more)
+unfolding Rattle.mp_file.specs.declared.Expression.TheBlock.hidden-the_row-Expression-0 Rattle.mp_file.specs.declared.Expression.TheBlock.hidden-the_row-Further-1 denote.Hole.Carrier.hidden
+chain_view a more = search (rules, the_lemmas, further_rows)
+
+pub paren_view : (a : Expression) → expr_of (Paren a) ≡ s.Paren (expr_of a)
+unfolding Rattle.mp_file.specs.declared.Expression.TheBlock.hidden-the_row-Expression-0 denote.Hole.Carrier.hidden
+paren_view a = search (rules, the_lemmas)
+
+pub power_view : (a : Expression) (at : _) (sign : Option Sign) (b : Expression) → expr_of (Power a at sign b) ≡ s.Power (expr_of a) at sign (expr_of b)
+unfolding Rattle.mp_file.specs.declared.Expression.TheBlock.hidden-the_row-Expression-0 denote.Hole.Carrier.hidden
+power_view a at sign b = search (rules, the_lemmas)
+
+pub call_view : (function : Function) (a b : Expression) → expr_of (Call function a b) ≡ s.Call function (expr_of a) (expr_of b)
+unfolding Rattle.mp_file.specs.declared.Expression.TheBlock.hidden-the_row-Expression-0 denote.Hole.Carrier.hidden
+call_view function a b = search (rules, the_lemmas)
+
+pub ruleset views = (signed_view, chain_view, paren_view, power_view, call_view)
