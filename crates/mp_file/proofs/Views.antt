@@ -1,5 +1,5 @@
 -- An expression that holds others shows them.
-use Rattle.std.proofs.Common.{◌≡◌, List, ◌∷◌, Option, map, refl, ap, rules}
+use Rattle.std.proofs.Common.{◌≡◌, ℕ, List, ◌∷◌, Option, map, refl, sym, ap, ◌∙◌, rules}
 use Rattle.mp_syntax.specs.Syntax as s
 use Rattle.mp_syntax.specs.declared.operator.Sign.{Sign}
 use Rattle.mp_syntax.specs.declared.operator.Function.{Function}
@@ -25,7 +25,7 @@ pub paren_view : (a : Expression) → expr_of (Paren a) ≡ s.Paren (expr_of a)
 unfolding Rattle.mp_file.specs.declared.Expression.TheBlock.hidden-the_row-Expression-0 denote.Hole.Carrier.hidden
 paren_view a = search (rules, the_lemmas)
 
-pub power_view : (a : Expression) (at : _) (sign : Option Sign) (b : Expression) → expr_of (Power a at sign b) ≡ s.Power (expr_of a) at sign (expr_of b)
+pub power_view : (a : Expression) (at : ℕ) (sign : Option Sign) (b : Expression) → expr_of (Power a at sign b) ≡ s.Power (expr_of a) at sign (expr_of b)
 unfolding Rattle.mp_file.specs.declared.Expression.TheBlock.hidden-the_row-Expression-0 denote.Hole.Carrier.hidden
 power_view a at sign b = search (rules, the_lemmas)
 
@@ -33,4 +33,19 @@ pub call_view : (function : Function) (a b : Expression) → expr_of (Call funct
 unfolding Rattle.mp_file.specs.declared.Expression.TheBlock.hidden-the_row-Expression-0 denote.Hole.Carrier.hidden
 call_view function a b = search (rules, the_lemmas)
 
-pub ruleset views = (signed_view, chain_view, paren_view, power_view, call_view)
+-- ---- of an expression that is one, where its parts were read
+
+pub signed_is : {e x a : Expression} {sign : Sign} → e ≡ Signed sign a → x ≡ a → expr_of e ≡ s.Signed sign (expr_of x)
+signed_is {a = a} {sign = sign} is one = ap expr_of is ∙ signed_view sign a ∙ ap (λ y. s.Signed sign (expr_of y)) (sym one)
+
+pub chain_is : {e x a : Expression} {xs more : List Further} → e ≡ Chain a more → x ≡ a → xs ≡ more → expr_of e ≡ s.with_further (expr_of x) (map further_of xs)
+chain_is {a = a} {xs = xs} {more = more} is one rest = ap expr_of is ∙ chain_view a more ∙ ap (λ y. s.with_further (expr_of y) (map further_of more)) (sym one) ∙ ap (λ l. s.with_further _ (map further_of l)) (sym rest)
+
+pub paren_is : {e x a : Expression} → e ≡ Paren a → x ≡ a → expr_of e ≡ s.Paren (expr_of x)
+paren_is {a = a} is one = ap expr_of is ∙ paren_view a ∙ ap (λ y. s.Paren (expr_of y)) (sym one)
+
+pub power_is : {e x y a b : Expression} {at : ℕ} {sign : Option Sign} → e ≡ Power a at sign b → x ≡ a → y ≡ b → expr_of e ≡ s.Power (expr_of x) at sign (expr_of y)
+power_is {x = x} {a = a} {b = b} {at = at} {sign = sign} is one two = ap expr_of is ∙ power_view a at sign b ∙ ap (λ z. s.Power (expr_of z) at sign (expr_of b)) (sym one) ∙ ap (λ z. s.Power (expr_of x) at sign (expr_of z)) (sym two)
+
+pub call_is : {e x y a b : Expression} {function : Function} → e ≡ Call function a b → x ≡ a → y ≡ b → expr_of e ≡ s.Call function (expr_of x) (expr_of y)
+call_is {x = x} {a = a} {b = b} {function = function} is one two = ap expr_of is ∙ call_view function a b ∙ ap (λ z. s.Call function (expr_of z) (expr_of b)) (sym one) ∙ ap (λ z. s.Call function (expr_of x) (expr_of z)) (sym two)
