@@ -8,6 +8,3 @@ pub mod table;
 pub use list::NameList;
 pub use names::{NameId, Names};
 pub use table::{Entry, Table};
-
-#[cfg(test)]
-mod tests;

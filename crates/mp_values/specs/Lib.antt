@@ -1,3 +1,4 @@
+pub mod Chained
 pub mod Limits
 pub mod ModelOf
 pub mod Names
