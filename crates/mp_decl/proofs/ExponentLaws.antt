@@ -6,7 +6,8 @@ use Rattle.mp_statements.specs.Parts.{items_in, equations_of}
 use Rattle.mp_file.specs.declared.Statement.{Statement}
 use Rattle.mp_file.specs.Shown.{statement_of}
 use Rattle.mp_values.specs.Table.{Table}
-use Rattle.mp_values.specs.Folded.{Stuck, Folded, ◌>>=◌, item_exponents, all_exponents}
+use Rattle.mp_values.specs.Limits.{Stuck, Folded, ◌>>=◌}
+use Rattle.mp_values.specs.Values.{item_exponents, all_exponents}
 
 after-after : (r : Folded (Unit {0})) (f g : Folded (Unit {0})) → (r >>= λ _. f >>= λ _. g) ≡ ((r >>= λ _. f) >>= λ _. g)
 after-after (Ok x) f g = refl

@@ -5,7 +5,7 @@ ghost use Rattle.mp_statements.specs.Parts.{equations_of};
 ghost use Rattle.mp_lex.specs.Shown.{tok_of};
 ghost use Rattle.mp_file.specs.Shown.{statement_of, file_of};
 ghost use Rattle.mp_values.specs.Names.{names_of};
-ghost use Rattle.mp_values.specs.Folded.{all_exponents};
+ghost use Rattle.mp_values.specs.Values.{all_exponents};
 ghost use Rattle.mp_declared.specs.Declared.{declared_fault};
 ghost use Rattle.mp_fold.specs.Shown.{shown, stuck_of};
 ghost use Rattle.mp_decl.specs.Given.{whole_told, values_told, declared_given, refusal, Tells, HasLowest};

@@ -3,7 +3,7 @@ use Rattle.std.specs.Prelude.{ℕ, ◌+◌, max, List, [], ◌∷◌, map}
 use Rattle.std.specs.List.{flat_map}
 use Rattle.mp_syntax.specs.declared.operator.Sign.{Sign}
 use Rattle.mp_syntax.specs.declared.operator.Sign.TheVariants as sign
-use Rattle.mp_syntax.specs.Syntax.{Expr, Number, Variable, Plus, Minus, Times, Over, Signed, Power, Paren, Min, Max}
+use Rattle.mp_syntax.specs.Syntax.{Expr, Number, Variable, Signed, Binary, Power, Paren, Call}
 use Rattle.mp_statements.specs.Statements.{Statement}
 use Rattle.mp_statements.specs.Parts.{equations_of}
 use Rattle.mp_declared.specs.Sides.{sides}
@@ -17,15 +17,11 @@ signed_height sign.Minus n = 1 + n
 unfoldable pub height : Expr → ℕ
 height (Number literal at) = 1
 height (Variable name shift) = 1
-height (Plus a at b) = 1 + max (height a) (height b)
-height (Minus a at b) = 1 + max (height a) (height b)
-height (Times a at b) = 1 + max (height a) (height b)
-height (Over a at b) = 1 + max (height a) (height b)
 height (Signed s a) = signed_height s (height a)
+height (Binary o a at b) = 1 + max (height a) (height b)
 height (Power a at s b) = 1 + height a
 height (Paren a) = height a
-height (Min a b) = 1 + max (height a) (height b)
-height (Max a b) = 1 + max (height a) (height b)
+height (Call f a b) = 1 + max (height a) (height b)
 
 abbrev pub greatest : List ℕ → ℕ
 greatest [] = 0

@@ -2,7 +2,7 @@
 use Rattle.std.specs.Prelude.{ℕ, List, [], ◌∷◌, ◌++◌, map, Option}
 use Rattle.std.specs.List.{flat_map}
 use Rattle.mp_statements.specs.declared.kind.NameKind.{NameKind}
-use Rattle.mp_syntax.specs.Syntax.{Shift, Named, Expr, Number, Variable, Plus, Minus, Times, Over, Signed, Power, Paren, Min, Max}
+use Rattle.mp_syntax.specs.Syntax.{Shift, Named, Expr, Number, Variable, Signed, Binary, Power, Paren, Call}
 use Rattle.mp_statements.specs.Statements.{Item, Statement, Declares, Assigns, Model}
 use Rattle.mp_declared.specs.Sides.{sides}
 
@@ -22,15 +22,11 @@ pub data Point : Type 0 where
 unfoldable pub reads : Reader → Expr → List Point
 reads r (Number literal at) = []
 reads r (Variable name shift) = Reads r name shift ∷ []
-reads r (Plus a at b) = reads r a ++ reads r b
-reads r (Minus a at b) = reads r a ++ reads r b
-reads r (Times a at b) = reads r a ++ reads r b
-reads r (Over a at b) = reads r a ++ reads r b
 reads r (Signed s a) = reads r a
+reads r (Binary o a at b) = reads r a ++ reads r b
 reads r (Power a at s b) = reads r a ++ reads Constant b
 reads r (Paren a) = reads r a
-reads r (Min a b) = reads r a ++ reads r b
-reads r (Max a b) = reads r a ++ reads r b
+reads r (Call f a b) = reads r a ++ reads r b
 
 -- the names that the sides of an equation read
 abbrev pub item_reads : Item → List Point

@@ -1,3 +1,3 @@
-pub mod AtomLaws
-pub mod ListLaws
+pub mod Chains
+pub mod Steps
 pub mod Tens

@@ -6,7 +6,8 @@ use Rattle.std.proofs.lemmas.Bool.Decides.{Decides-int_eq}
 use Rattle.mp_rational.specs.Fraction.{Fraction, ratio_of, whole}
 use Rattle.mp_rational.specs.Lowest.{numerator, denominator}
 use Rattle.mp_rational.proofs.Lowest.{ratio_of-parts}
-use Rattle.mp_values.specs.Folded.{is_near}
+use Rattle.std.specs.Prelude.{nat_le}
+use Rattle.std.specs.Int.RustNames.{unsigned_abs}
 use Rattle.mp_fold.specs.Near.{near_of}
 
 pub ten_power : (s : ℕ) → s ≤ 37 → 10 ^ s ≤ 10 ^ 37
@@ -23,7 +24,7 @@ near_by n k false b e = absurd cc
 -- a fraction whose parts are those of a near whole number
 pub whole_by : (x : Fraction) (n d k : ℤ) → n ≡ numerator x → d ≡ pos (denominator x) → Some k ≡ near_of n d → x ≡ whole k
 whole_by x n d k top bottom near =
-    let two = near_by n k (int_eq d (pos 1)) (is_near n) near in
+    let two = near_by n k (int_eq d (pos 1)) (nat_le (unsigned_abs n) 16) near in
     let one : pos (denominator x) ≡ pos 1 = sym bottom ∙ (Decides-int_eq d (pos 1)).0 two.0 in
     let e : denominator x ≡ 1 = cc in
     sym (ratio_of-parts x) ∙ ap (λ (m : ℤ). ratio_of m (denominator x)) (sym top ∙ two.1) ∙ ap (ratio_of k) e

@@ -1,4 +1,3 @@
 pub mod Assigned
-pub mod Lists
 pub mod Near
 pub mod Shown

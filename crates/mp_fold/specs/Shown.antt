@@ -1,7 +1,7 @@
 -- What the code gives, as the definitions see it.
 use Rattle.std.specs.Prelude.{Result, Ok, Err}
 use Rattle.mp_frac.specs.Value.{value_of}
-use Rattle.mp_values.specs.Folded.{Stuck, Unvalued, Refused, Folded, ◌>>=◌}
+use Rattle.mp_values.specs.Limits.{Stuck, Unvalued, Refused, Folded, ◌>>=◌}
 use Rattle.mp_fold.specs.declared.fault.FoldFault.{FoldFault}
 use Rattle.mp_fold.specs.declared.fault.FoldFault.TheVariants as f
 

@@ -6,10 +6,10 @@ pub mod assign;
 pub mod fault;
 pub mod number;
 pub mod operations;
-pub mod powers;
-pub mod sums;
+pub mod tested;
+pub mod values;
 
 pub use assign::assign_values;
 pub use fault::FoldFault;
-pub use powers::{exponent_value, exponents};
-pub use sums::{atom_value, value_of};
+pub use tested::{exponent_value, exponents};
+pub use values::value_of;

@@ -3,8 +3,8 @@ ghost use Rattle.std.specs.Prelude.{◌≡◌, ◌≤◌, ◌^◌, pos};
 ghost use Rattle.mp_tokens.specs.Literals.{decimal_of};
 ghost use Rattle.mp_rational.specs.Fraction.{ratio_of};
 ghost use Rattle.mp_frac.specs.Value.{value_of};
-ghost use Rattle.mp_values.specs.Constant.{decimal_value};
-ghost use Rattle.mp_values.specs.Folded.{known, literal_given};
+ghost use Rattle.mp_values.specs.Limits.{limited, known};
+ghost use Rattle.mp_values.specs.Values.{decimal_value};
 ghost use Rattle.mp_values.specs.Table.{value_in};
 ghost use Rattle.mp_fold.specs.Shown.{shown, and_then};
 
@@ -17,7 +17,7 @@ use mp_names::Table;
 
 // The value of a literal at this place, where it is in range.
 pub(crate) fn literal_value<'t>(literal: &[u8], at: u32) -> Result<Frac, FoldFault<'t>>
-    ensures { shown value_of result ≡ and_then (literal_given literal.now at) (λ n. Ok (decimal_value n)) }
+    ensures { shown value_of result ≡ and_then (limited.literal at (decimal_of literal.now)) (λ n. Ok (decimal_value n)) }
 {
     match decimal(literal) {
         Some(number) => Ok(fraction(number)),

@@ -1,18 +1,16 @@
-// Operations on values that may be missing. The first one that is, is told.
-ghost use Rattle.std.specs.Prelude.{◌≡◌, pos, ℤ, if◌then◌else◌, option_map, IfOk};
+// Operations on fractions, with their limits.
+ghost use Rattle.std.specs.Prelude.{◌≡◌, IfOk};
 ghost use Rattle.mp_rational.specs.Fraction.{less, whole};
-ghost use Rattle.mp_frac.specs.Stated.{power_outcome};
 ghost use Rattle.mp_frac.specs.Value.{value_of, outcome_of};
-ghost use Rattle.mp_values.specs.Constant.{with_sign, with_sign_if, whole_of};
-ghost use Rattle.mp_values.specs.Folded.{told, exponent_or, exponent_at};
-ghost use Rattle.mp_fold.specs.Lists.{next_product, next_sum, power_given};
+ghost use Rattle.mp_values.specs.Limits.{limited, told};
+ghost use Rattle.mp_values.specs.Values.{with_sign, with_sign_if, chosen, exponent_at};
 ghost use Rattle.mp_fold.specs.Near.{near_of};
 ghost use Rattle.mp_fold.specs.Shown.{shown, and_then};
 
 use crate::fault::FoldFault;
 use mp_base::{DataKind, Ratio};
 use mp_frac::{Frac, FracFault};
-use mp_syntax::{Scale, Sign};
+use mp_syntax::{Function, Operator, Sign};
 use std::cmp::Ordering;
 
 /// A value, or why there is none.
@@ -35,59 +33,32 @@ fn told<'t>(at: u32, x: Frac, y: Frac, outcome: Result<Frac, FracFault>) -> Valu
     })
 }
 
-// The product so far with one more factor. The first has no operator.
-pub(crate) fn next_product<'t>(
-    scale: Scale,
-    at: u32,
-    so_far: Option<Frac>,
-    factor: Value<'t>,
-) -> Value<'t>
-    ensures { shown value_of result ≡ and_then (shown value_of factor.entry) (λ y. next_product (option_map value_of so_far) scale at y) }
+// What joins two operands at this place.
+pub(crate) fn joined<'t>(op: Operator, at: u32, x: Frac, y: Frac) -> Value<'t>
+    ensures { shown value_of result ≡ limited.result op at (value_of x) (value_of y) }
 {
-    let y = match factor {
-        Ok(y) => y,
-        Err(fault) => return Err(fault),
+    let outcome = match op {
+        Operator::Plus => x.add(y),
+        Operator::Minus => x.sub(y),
+        Operator::Times => x.mul(y),
+        Operator::Over => x.div(y),
     };
-    let Some(x) = so_far else {
-        return Ok(y);
-    };
-    match scale {
-        Scale::Times => told(at, x, y, x.mul(y)),
-        Scale::Over => told(at, x, y, x.div(y)),
-    }
-}
-
-// The sum so far with one more term. The first has no operator.
-pub(crate) fn next_sum<'t>(sign: Sign, at: u32, so_far: Option<Frac>, term: Value<'t>) -> Value<'t>
-    ensures { shown value_of result ≡ and_then (shown value_of term.entry) (λ y. next_sum (option_map value_of so_far) sign at y) }
-{
-    let y = match term {
-        Ok(y) => y,
-        Err(fault) => return Err(fault),
-    };
-    let Some(x) = so_far else {
-        return Ok(y);
-    };
-    match sign {
-        Sign::Plus => told(at, x, y, x.add(y)),
-        Sign::Minus => told(at, x, y, x.sub(y)),
-    }
+    told(at, x, y, outcome)
 }
 
 // The value with the sign before it.
-fn with_sign(sign: Option<Sign>, x: Frac) -> Frac
-    ensures { value_of result ≡ with_sign_if sign (value_of x) }
+fn with_sign(sign: Sign, x: Frac) -> Frac
+    ensures { value_of result ≡ with_sign sign (value_of x) }
 {
     match sign {
-        None => x,
-        Some(Sign::Plus) => x,
-        Some(Sign::Minus) => x.negated(),
+        Sign::Plus => x,
+        Sign::Minus => x.negated(),
     }
 }
 
 // The same of a value that may be missing.
-pub(crate) fn signed<'t>(sign: Option<Sign>, x: Value<'t>) -> Value<'t>
-    ensures { shown value_of result ≡ and_then (shown value_of x.entry) (λ a. Ok (with_sign_if sign a)) }
+pub(crate) fn signed<'t>(sign: Sign, x: Value<'t>) -> Value<'t>
+    ensures { shown value_of result ≡ and_then (shown value_of x.entry) (λ a. Ok (with_sign sign a)) }
 {
     match x {
         Ok(a) => Ok(with_sign(sign, a)),
@@ -95,25 +66,24 @@ pub(crate) fn signed<'t>(sign: Option<Sign>, x: Value<'t>) -> Value<'t>
     }
 }
 
-// The lesser of both.
-pub(crate) fn least<'t>(x: Value<'t>, y: Value<'t>) -> Value<'t>
-    ensures { shown value_of result ≡ and_then (shown value_of x.entry) (λ a. and_then (shown value_of y.entry) (λ b. Ok (if less a b then a else b))) }
+// The lesser or the greater of both.
+pub(crate) fn chosen<'t>(function: Function, x: Value<'t>, y: Value<'t>) -> Value<'t>
+    ensures { shown value_of result ≡ and_then (shown value_of x.entry) (λ a. and_then (shown value_of y.entry) (λ b. Ok (chosen function a b))) }
 {
     match (x, y) {
-        (Ok(a), Ok(b)) => Ok(if is_less(a, b) { a } else { b }),
+        (Ok(a), Ok(b)) => Ok(choice(function, a, b)),
         (Err(fault), _) => Err(fault),
         (_, Err(fault)) => Err(fault),
     }
 }
 
-// The greater of both.
-pub(crate) fn greatest<'t>(x: Value<'t>, y: Value<'t>) -> Value<'t>
-    ensures { shown value_of result ≡ and_then (shown value_of x.entry) (λ a. and_then (shown value_of y.entry) (λ b. Ok (if less a b then b else a))) }
+fn choice(function: Function, x: Frac, y: Frac) -> Frac
+    ensures { value_of result ≡ chosen function (value_of x) (value_of y) }
 {
-    match (x, y) {
-        (Ok(a), Ok(b)) => Ok(if is_less(a, b) { b } else { a }),
-        (Err(fault), _) => Err(fault),
-        (_, Err(fault)) => Err(fault),
+    let first_is_less = is_less(x, y);
+    match function {
+        Function::Min => if first_is_less { x } else { y },
+        Function::Max => if first_is_less { y } else { x },
     }
 }
 
@@ -123,17 +93,22 @@ fn is_less(x: Frac, y: Frac) -> bool
     x.cmp(&y) == Ordering::Less
 }
 
-// The power at this place, by the value of its exponent before its sign.
-pub(crate) fn power<'t>(
-    at: u32,
-    sign: Option<Sign>,
-    base: Value<'t>,
-    exponent: Value<'t>,
-) -> Value<'t>
-    ensures { shown value_of result ≡ and_then (shown value_of base.entry) (λ x. and_then (shown value_of exponent.entry) (λ y. power_given at sign x y)) }
+// The value of an exponent with the sign before it, if there is one.
+fn with_sign_if(sign: Option<Sign>, x: Frac) -> Frac
+    ensures { value_of result ≡ with_sign_if sign (value_of x) }
 {
-    match (base, exponent) {
-        (Ok(x), Ok(y)) => raised(at, x, with_sign(sign, y)),
+    match sign {
+        None => x,
+        Some(sign) => with_sign(sign, x),
+    }
+}
+
+// The power at this place, by the value of its exponent before its sign.
+pub(crate) fn power<'t>(at: u32, sign: Option<Sign>, x: Value<'t>, y: Value<'t>) -> Value<'t>
+    ensures { shown value_of result ≡ and_then (shown value_of x.entry) (λ a. and_then (shown value_of y.entry) (λ b. and_then (exponent_at limited at sign b) (λ k. limited.raised at a k))) }
+{
+    match (x, y) {
+        (Ok(a), Ok(b)) => raised(at, a, with_sign_if(sign, b)),
         (Err(fault), _) => Err(fault),
         (_, Err(fault)) => Err(fault),
     }
@@ -141,7 +116,7 @@ pub(crate) fn power<'t>(
 
 // The power at this place with this exponent.
 fn raised<'t>(at: u32, x: Frac, exponent: Frac) -> Value<'t>
-    ensures { shown value_of result ≡ and_then (exponent_or at (value_of exponent) (whole_of (value_of exponent))) (λ k. told at (value_of x) (whole k) (power_outcome (value_of x) k)) }
+    ensures { shown value_of result ≡ and_then (limited.exponent at (value_of exponent)) (λ k. limited.raised at (value_of x) k) }
 {
     match near_whole(at, exponent) {
         Ok(k) => told(at, x, exponent, x.pow(k)),
@@ -149,41 +124,23 @@ fn raised<'t>(at: u32, x: Frac, exponent: Frac) -> Value<'t>
     }
 }
 
-// The exponent of a "^" at this place, of this value after its sign.
-pub(crate) fn exponent<'t>(
-    at: u32,
-    sign: Option<Sign>,
-    written: Value<'t>,
-) -> Result<i8, FoldFault<'t>>
-    ensures { shown (λ k. k) result ≡ and_then (shown value_of written.entry) (λ y. exponent_at at sign y) }
-{
-    match written {
-        Ok(y) => near_whole(at, with_sign(sign, y)),
-        Err(fault) => Err(fault),
-    }
-}
-
-// Whether the exponent at this place may be one.
+// The exponent of a "^" at this place, by its value before its sign.
 pub(crate) fn near_exponent<'t>(
     at: u32,
     sign: Option<Sign>,
-    exponent: Value<'t>,
-) -> Result<(), FoldFault<'t>>
-    ensures { shown (λ u. u) result ≡ and_then (shown value_of exponent.entry) (λ y. and_then (exponent_at at sign y) (λ _. Ok tt)) }
+    y: Value<'t>,
+) -> Result<i8, FoldFault<'t>>
+    ensures { shown (λ k. k) result ≡ and_then (shown value_of y.entry) (λ b. exponent_at limited at sign b) }
 {
-    let y = match exponent {
-        Ok(y) => y,
-        Err(fault) => return Err(fault),
-    };
-    match near_whole(at, with_sign(sign, y)) {
-        Ok(_) => Ok(()),
+    match y {
+        Ok(b) => near_whole(at, with_sign_if(sign, b)),
         Err(fault) => Err(fault),
     }
 }
 
 // The whole number that this exponent is, from -16 to 16.
 fn near_whole<'t>(at: u32, exponent: Frac) -> Result<i8, FoldFault<'t>>
-    ensures given { shown (λ k. k) result ≡ exponent_or at (value_of exponent) (whole_of (value_of exponent)) }
+    ensures given { shown (λ k. k) result ≡ limited.exponent at (value_of exponent) }
     ensures whole { IfOk result (λ k. value_of exponent ≡ whole k) }
 {
     let parts = exponent.parts();

@@ -1,7 +1,7 @@
 -- Names by their numbers, from 1.
 use Rattle.std.specs.Prelude.{ℕ, ℤ, ◌+◌, ◌-◌, List, option_map, Option}
 use Rattle.std.specs.Option.{option_or}
-use Rattle.mp_semantics.specs.Term.{Term, variable, endogenous, exogenous, parameter}
+use Rattle.mp_semantics.specs.Term.{Term, leaf, variable, endogenous, exogenous, parameter}
 use Rattle.mp_values.specs.Names.{Names, place_of}
 use Rattle.mp_names.specs.declared.names.NameId.{NameId}
 use Rattle.mp_names.specs.declared.names.NameId.TheVariants.{Endo, Exo, Param}
@@ -13,6 +13,6 @@ id_of ns name =
 
 -- the variable of this number, shifted, or the parameter
 abbrev pub term_by : ℤ → NameId → Term
-term_by shift (Endo n) = variable (endogenous (n - 1)) shift
-term_by shift (Exo n) = variable (exogenous (n - 1)) shift
-term_by shift (Param n) = parameter (n - 1)
+term_by shift (Endo n) = leaf (variable (endogenous (n - 1)) shift)
+term_by shift (Exo n) = leaf (variable (exogenous (n - 1)) shift)
+term_by shift (Param n) = leaf (parameter (n - 1))

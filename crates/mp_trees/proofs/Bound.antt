@@ -1,7 +1,8 @@
 -- Going on with what there is.
 use Rattle.std.proofs.Common.{◌≡◌, List, [], ◌∷◌, ◌++◌, append-nil, append_assoc, Ok, Err, refl, sym, ap, ◌∙◌}
 use Rattle.mp_frac.specs.Value.{value_of}
-use Rattle.mp_values.specs.Folded.{Folded, Stuck, Unvalued, Refused, each_given, ◌>>=◌}
+use Rattle.mp_values.specs.Limits.{Folded, Stuck, Unvalued, Refused, ◌>>=◌}
+use Rattle.mp_values.specs.ModelOf.{each}
 use Rattle.mp_trees.specs.declared.fault.ModelFault.{ModelFault}
 use Rattle.mp_trees.specs.declared.fault.ModelFault.TheVariants as fault
 use Rattle.mp_fold.specs.declared.fault.FoldFault.{FoldFault}
@@ -46,31 +47,31 @@ module _ {A B : Type 0} (f : A → Folded B) where
   one_first front y (Ok zs) = ap (λ l. Ok l) (sym (append_assoc front (y ∷ []) zs))
   one_first front y (Err e) = refl
 
-  both : (front : List B) (xs ys : List A) (r : Folded B) → ((y : B) → after_these (front ++ y ∷ []) (each_given f (xs ++ ys)) ≡ (after_these (front ++ y ∷ []) (each_given f xs) >>= λ new. after_these new (each_given f ys))) → after_these front (r >>= λ y. each_given f (xs ++ ys) >>= λ zs. Ok (y ∷ zs)) ≡ (after_these front (r >>= λ y. each_given f xs >>= λ zs. Ok (y ∷ zs)) >>= λ new. after_these new (each_given f ys))
+  both : (front : List B) (xs ys : List A) (r : Folded B) → ((y : B) → after_these (front ++ y ∷ []) (each f (xs ++ ys)) ≡ (after_these (front ++ y ∷ []) (each f xs) >>= λ new. after_these new (each f ys))) → after_these front (r >>= λ y. each f (xs ++ ys) >>= λ zs. Ok (y ∷ zs)) ≡ (after_these front (r >>= λ y. each f xs >>= λ zs. Ok (y ∷ zs)) >>= λ new. after_these new (each f ys))
   both front xs ys (Ok y) rest =
-      one_first front y (each_given f (xs ++ ys)) ∙ rest y ∙ ap (λ r. r >>= λ new. after_these new (each_given f ys)) (sym (one_first front y (each_given f xs)))
+      one_first front y (each f (xs ++ ys)) ∙ rest y ∙ ap (λ r. r >>= λ new. after_these new (each f ys)) (sym (one_first front y (each f xs)))
   both front xs ys (Err e) rest = refl
 
-  pub each_given-append : (front : List B) (xs ys : List A) → after_these front (each_given f (xs ++ ys)) ≡ (after_these front (each_given f xs) >>= λ new. after_these new (each_given f ys))
-  each_given-append front [] ys = ap (λ l. after_these l (each_given f ys)) (sym (append-nil front))
-  each_given-append front (x ∷ xs) ys = both front xs ys (f x) (λ y. each_given-append (front ++ y ∷ []) xs ys)
+  pub each-append : (front : List B) (xs ys : List A) → after_these front (each f (xs ++ ys)) ≡ (after_these front (each f xs) >>= λ new. after_these new (each f ys))
+  each-append front [] ys = ap (λ l. after_these l (each f ys)) (sym (append-nil front))
+  each-append front (x ∷ xs) ys = both front xs ys (f x) (λ y. each-append (front ++ y ∷ []) xs ys)
 
   -- one that is given comes after those so far
-  pub next_given : (front new : List B) (x : A) (xs : List A) (y : B) (whole : Folded (List B)) → after_these front (each_given f (x ∷ xs)) ≡ whole → f x ≡ Ok y → new ≡ front ++ y ∷ [] → after_these new (each_given f xs) ≡ whole
+  pub next_given : (front new : List B) (x : A) (xs : List A) (y : B) (whole : Folded (List B)) → after_these front (each f (x ∷ xs)) ≡ whole → f x ≡ Ok y → new ≡ front ++ y ∷ [] → after_these new (each f xs) ≡ whole
   next_given front new x xs y whole so_far is more =
-      ap (λ l. after_these l (each_given f xs)) more ∙ sym (one_first front y (each_given f xs)) ∙ ap (λ r. after_these front (r >>= λ y. each_given f xs >>= λ zs. Ok (y ∷ zs))) (sym is) ∙ so_far
+      ap (λ l. after_these l (each f xs)) more ∙ sym (one_first front y (each f xs)) ∙ ap (λ r. after_these front (r >>= λ y. each f xs >>= λ zs. Ok (y ∷ zs))) (sym is) ∙ so_far
 
   -- one that fails makes all fail
-  pub next_fails : (e : ModelFault) (front : List B) (x : A) (xs : List A) (whole : Folded (List B)) → after_these front (each_given f (x ∷ xs)) ≡ whole → Fails e (f x) → Fails e whole
+  pub next_fails : (e : ModelFault) (front : List B) (x : A) (xs : List A) (whole : Folded (List B)) → after_these front (each f (x ∷ xs)) ≡ whole → Fails e (f x) → Fails e whole
   next_fails e front x xs whole so_far fails =
-      Fails_same e _ whole so_far (Fails-bind e (each_given f (x ∷ xs)) (λ more. Ok (front ++ more)) (Fails-bind e (f x) (λ y. each_given f xs >>= λ ys. Ok (y ∷ ys)) fails))
+      Fails_same e _ whole so_far (Fails-bind e (each f (x ∷ xs)) (λ more. Ok (front ++ more)) (Fails-bind e (f x) (λ y. each f xs >>= λ ys. Ok (y ∷ ys)) fails))
 
   -- some that are given come after those so far
-  pub some_given : (front new : List B) (xs ys : List A) (whole : Folded (List B)) → after_these front (each_given f (xs ++ ys)) ≡ whole → after_these front (each_given f xs) ≡ Ok new → after_these new (each_given f ys) ≡ whole
+  pub some_given : (front new : List B) (xs ys : List A) (whole : Folded (List B)) → after_these front (each f (xs ++ ys)) ≡ whole → after_these front (each f xs) ≡ Ok new → after_these new (each f ys) ≡ whole
   some_given front new xs ys whole so_far is =
-      sym (ap (λ r. r >>= λ n. after_these n (each_given f ys)) is) ∙ sym (each_given-append front xs ys) ∙ so_far
+      sym (ap (λ r. r >>= λ n. after_these n (each f ys)) is) ∙ sym (each-append front xs ys) ∙ so_far
 
   -- one of these that fails makes all fail
-  pub some_fail : (e : ModelFault) (front : List B) (xs ys : List A) (whole : Folded (List B)) → after_these front (each_given f (xs ++ ys)) ≡ whole → Fails e (after_these front (each_given f xs)) → Fails e whole
+  pub some_fail : (e : ModelFault) (front : List B) (xs ys : List A) (whole : Folded (List B)) → after_these front (each f (xs ++ ys)) ≡ whole → Fails e (after_these front (each f xs)) → Fails e whole
   some_fail e front xs ys whole so_far fails =
-      Fails_same e _ whole (sym (each_given-append front xs ys) ∙ so_far) (Fails-bind e (after_these front (each_given f xs)) (λ n. after_these n (each_given f ys)) fails)
+      Fails_same e _ whole (sym (each-append front xs ys) ∙ so_far) (Fails-bind e (after_these front (each f xs)) (λ n. after_these n (each f ys)) fails)

@@ -13,7 +13,8 @@ use Rattle.mp_expr.specs.declared.tree.Tree.{Tree}
 use Rattle.mp_expr.specs.Shown.{term_of}
 use Rattle.mp_values.specs.Names.{Names}
 use Rattle.mp_values.specs.Table.{Table}
-use Rattle.mp_values.specs.Folded.{Folded, ◌>>=◌, term_given}
+use Rattle.mp_values.specs.Limits.{Folded, ◌>>=◌}
+use Rattle.mp_values.specs.ModelOf.{term_given}
 use Rattle.mp_trees.specs.Joined.{signed_by, joined_to, scaled_to}
 use Rattle.mp_trees.specs.declared.fault.ModelFault.{ModelFault}
 use Rattle.mp_trees.specs.Gives.{Fails}

@@ -3,7 +3,7 @@ use Rattle.std.specs.Prelude.{◌≡◌, ℕ, pos, ◌^◌, nat_le, if◌then◌
 use Rattle.mp_base.specs.declared.kinds.DataKind.TheVariants as d
 use Rattle.mp_rational.specs.Fraction.{whole}
 use Rattle.mp_frac.specs.Value.{value_of}
-use Rattle.mp_values.specs.Folded.{Folded, Unvalued, Refused}
+use Rattle.mp_values.specs.Limits.{Folded, Unvalued, Refused}
 use Rattle.mp_trees.specs.declared.fault.ModelFault.{ModelFault}
 use Rattle.mp_trees.specs.declared.fault.ModelFault.TheVariants as fault
 

@@ -8,8 +8,10 @@ use Rattle.mp_semantics.specs.Term.{Term}
 use Rattle.mp_semantics.specs.Model as m
 use Rattle.mp_values.specs.Names.{Names, names_of, named_term}
 use Rattle.mp_values.specs.Table.{Table}
-use Rattle.mp_values.specs.ModelOf.{number_by, parameter_of, model_with}
-use Rattle.mp_values.specs.Folded.{Folded, ◌>>=◌, known, literal_given, shift_given, folded, exponent_at, parameters_given, equations_given}
+use Rattle.mp_values.specs.ModelOf.{number_by, parameter_of, model_with, parameters_given, equations_given}
+use Rattle.mp_values.specs.Limits.{Folded, ◌>>=◌, known}
+use Rattle.mp_values.specs.UNKNOWN.{literal_given, shift_given}
+use Rattle.mp_values.specs.Values.{folded, exponent_at}
 
 -- the number of a literal at this place
 abbrev pub number_given : List ℕ → ℕ → Folded Term

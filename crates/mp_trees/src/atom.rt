@@ -4,7 +4,7 @@ ghost use Rattle.mp_tokens.specs.Literals.{number_of};
 ghost use Rattle.mp_file.specs.Shown.{shift_of, named_of};
 ghost use Rattle.mp_expr.specs.Shown.{term_of};
 ghost use Rattle.mp_values.specs.Names.{along, named_term};
-ghost use Rattle.mp_values.specs.Folded.{shift_given};
+ghost use Rattle.mp_values.specs.UNKNOWN.{shift_given};
 ghost use Rattle.mp_trees.specs.Gives.{Gives, IsFarLiteral, same, up_to_limit};
 ghost use Rattle.mp_trees.specs.Parts.{number_given, name_given};
 

@@ -4,7 +4,7 @@ ghost use Rattle.mp_statements.specs.Parts.{items_in, equations_of};
 ghost use Rattle.mp_file.specs.Shown.{expr_of, item_of, statement_of, file_of};
 ghost use Rattle.mp_expr.specs.Shown.{term_of};
 ghost use Rattle.mp_model_data.specs.Shown.{equation_of};
-ghost use Rattle.mp_values.specs.Folded.{right_given, equation_given, each_given};
+ghost use Rattle.mp_values.specs.ModelOf.{right_given, equation_given, each};
 ghost use Rattle.mp_trees.specs.Gives.{Gives};
 ghost use Rattle.mp_trees.specs.Parts.{after_these};
 
@@ -56,7 +56,7 @@ pub(crate) fn sides_of_file<'t>(
     names: &Names<'t>,
     table: &Table<'t>,
 ) -> Result<Vec<Sides>, ModelFault<'t>>
-    ensures { Gives (λ v. map equation_of v.items) result (each_given (equation_given names.now table.now) (equations_of (file_of file.now))) }
+    ensures { Gives (λ v. map equation_of v.items) result (each (equation_given names.now table.now) (equations_of (file_of file.now))) }
 {
     let mut found = Vec::new(alloc);
     'turns: for statement in file.statements.as_slice() {
@@ -73,7 +73,7 @@ fn add_each<'t>(
     names: &Names<'t>,
     table: &Table<'t>,
 ) -> Result<(), ModelFault<'t>>
-    ensures { Gives (λ _. map equation_of found.new.items) result (after_these (map equation_of found.old.items) (each_given (equation_given names.now table.now) (map item_of items.now))) }
+    ensures { Gives (λ _. map equation_of found.new.items) result (after_these (map equation_of found.old.items) (each (equation_given names.now table.now) (map item_of items.now))) }
 {
     'turns: for item in items {
         let sides = sides_of(alloc, item, names, table)?;

@@ -4,8 +4,7 @@ ghost use Rattle.mp_file.specs.Shown.{file_of};
 ghost use Rattle.mp_model_data.specs.Shown.{parameter_of, equation_of, model_data};
 ghost use Rattle.mp_values.specs.Names.{names_of};
 ghost use Rattle.mp_names.specs.Entry.{entry_of};
-ghost use Rattle.mp_values.specs.ModelOf.{model_with};
-ghost use Rattle.mp_values.specs.Folded.{parameters_given};
+ghost use Rattle.mp_values.specs.ModelOf.{model_with, parameters_given};
 ghost use Rattle.mp_trees.specs.Gives.{Gives};
 ghost use Rattle.mp_trees.specs.Parts.{model_at, parameter_given};
 

@@ -3,7 +3,7 @@ ghost use Rattle.std.specs.Prelude.{◌≡◌, map, option_map, IfOk};
 ghost use Rattle.mp_file.specs.Shown.{atom_of, factor_of, product_of, expr_of};
 ghost use Rattle.mp_semantics.specs.Term.{least, greatest, power_of};
 ghost use Rattle.mp_expr.specs.Shown.{term_of};
-ghost use Rattle.mp_values.specs.Folded.{term_given};
+ghost use Rattle.mp_values.specs.ModelOf.{term_given};
 ghost use Rattle.mp_trees.specs.Gives.{Gives, same};
 ghost use Rattle.mp_trees.specs.Parts.{exponent_given};
 ghost use Rattle.mp_trees.specs.Joined.{signed_by, joined_to, scaled_to};

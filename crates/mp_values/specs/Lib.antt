@@ -1,5 +1,6 @@
-pub mod Constant
-pub mod Folded
+pub mod Chained
+pub mod Limits
 pub mod ModelOf
 pub mod Names
 pub mod Table
+pub mod Values

@@ -1,62 +1,73 @@
--- The model that a file means (Dynare manual, "The model file"). It knows no limits.
-use Rattle.std.specs.Prelude.{ℕ, List, [], ◌∷◌, option_map, Option, Some, None}
+-- The model that a file means (Dynare manual, "The model file"), within limits of numbers or without.
+use Rattle.std.specs.Prelude.{ℕ, List, [], ◌∷◌, option_map, Option, Some, None, Ok}
 use Rattle.mp_rational.specs.Fraction.{Fraction}
+use Rattle.mp_tokens.specs.Literals.{Decimal, decimal_of}
 use Rattle.mp_syntax.specs.declared.operator.Sign.{Sign}
 use Rattle.mp_syntax.specs.declared.operator.Sign.TheVariants as sign
-use Rattle.mp_tokens.specs.Literals.{Decimal, decimal_of}
-use Rattle.mp_syntax.specs.Syntax.{Expr, Number, Variable, Plus, Minus, Times, Over, Signed, Power, Paren, Min, Max}
+use Rattle.mp_syntax.specs.declared.operator.Function.{Function}
+use Rattle.mp_syntax.specs.declared.operator.Function.TheVariants as function
+use Rattle.mp_syntax.specs.Syntax.{Expr, Number, Variable, Signed, Binary, Power, Paren, Call}
 use Rattle.mp_statements.specs.Statements.{Item, Statement}
 use Rattle.mp_statements.specs.Parts.{equations_of}
-use Rattle.mp_semantics.specs.Term.{Term, number, negative, plus, minus, times, quotient, power_of, least, greatest}
-use Rattle.mp_semantics.specs.Value.{of_one, of_both}
+use Rattle.mp_semantics.specs.Term as sem
 use Rattle.mp_semantics.specs.Model as m
 use Rattle.mp_values.specs.Table.{Table}
 use Rattle.mp_values.specs.Names.{Names, names_of, named_term, shift_of}
-use Rattle.mp_values.specs.Constant.{constant, exponent_by, values_of}
+use Rattle.mp_values.specs.Limits.{Folded, ◌>>=◌, known, answer, binary_of, Limits, exact, limited}
+use Rattle.mp_values.specs.Values.{value_by, exponent_at, values_by}
 
 -- the number m / 10^s
-abbrev pub number_by : Decimal → Term
-number_by d = number d.m d.s
+abbrev pub number_by : Decimal → sem.Term
+number_by n = sem.leaf (sem.number n.m n.s)
 
 -- an expression with the sign before it
-abbrev pub signed_term : Sign → Term → Term
+abbrev pub signed_term : Sign → sem.Term → sem.Term
 signed_term sign.Plus a = a
-signed_term sign.Minus a = negative a
+signed_term sign.Minus a = sem.negative a
 
--- the term of an expression, where these are the declared names and the parameters have these values; an exponent is the whole number that it is worth
-abbrev pub term_of : Names → Table → Expr → Option Term
-term_of ns t (Number literal at) = Some (number_by (decimal_of literal))
-term_of ns t (Variable name shift) = named_term ns name.name (shift_of shift)
-term_of ns t (Plus a at b) = of_both (λ x y. Some (plus x y)) (term_of ns t a) (term_of ns t b)
-term_of ns t (Minus a at b) = of_both (λ x y. Some (minus x y)) (term_of ns t a) (term_of ns t b)
-term_of ns t (Times a at b) = of_both (λ x y. Some (times x y)) (term_of ns t a) (term_of ns t b)
-term_of ns t (Over a at b) = of_both (λ x y. Some (quotient x y)) (term_of ns t a) (term_of ns t b)
-term_of ns t (Signed s a) = of_one (λ x. Some (signed_term s x)) (term_of ns t a)
-term_of ns t (Power a at s b) = of_both (λ x k. Some (power_of x k)) (term_of ns t a) (of_one (exponent_by s) (constant t b))
-term_of ns t (Paren a) = term_of ns t a
-term_of ns t (Min a b) = of_both (λ x y. Some (least x y)) (term_of ns t a) (term_of ns t b)
-term_of ns t (Max a b) = of_both (λ x y. Some (greatest x y)) (term_of ns t a) (term_of ns t b)
+abbrev pub binary_called : Function → sem.Binary
+binary_called function.Min = sem.least
+binary_called function.Max = sem.greatest
+
+-- the term of an expression, where these are the declared names and the parameters have these values, or why there is none: of the first literal, name or exponent, in text order, that has none; an exponent is the whole number that it is worth
+abbrev pub term_by : Limits → Names → Table → Expr → Folded sem.Term
+term_by L ns t (Number literal at) = L.literal at (decimal_of literal) >>= λ n. Ok (number_by n)
+term_by L ns t (Variable name shift) = L.shift name.at (shift_of shift) >>= λ k. known name.name (named_term ns name.name k)
+term_by L ns t (Signed s a) = term_by L ns t a >>= λ x. Ok (signed_term s x)
+term_by L ns t (Binary o a at b) = term_by L ns t a >>= λ x. term_by L ns t b >>= λ y. Ok (sem.binary (binary_of o) x y)
+term_by L ns t (Power a at s b) =
+    term_by L ns t a >>= λ x. value_by L t b >>= λ y. exponent_at L at s y >>= λ k. Ok (sem.power_of x k)
+term_by L ns t (Paren a) = term_by L ns t a
+term_by L ns t (Call f a b) = term_by L ns t a >>= λ x. term_by L ns t b >>= λ y. Ok (sem.binary (binary_called f) x y)
 
 -- a right side that is not written is 0
-abbrev pub right_term : Names → Table → Option Expr → Option Term
-right_term ns t None = Some (number 0 0)
-right_term ns t (Some e) = term_of ns t e
+abbrev pub right_by : Limits → Names → Table → Option Expr → Folded sem.Term
+right_by L ns t None = Ok (sem.leaf (sem.number 0 0))
+right_by L ns t (Some e) = term_by L ns t e
 
 -- an equation that is in force in each regime
-abbrev pub equation : Term → Term → m.Equation
-equation left right = record { left = left; right = right; name = None; bind = []; relax = [] }
+abbrev pub equation : sem.Term → sem.Term → m.Equation
+equation left right = record { left = left; right = right; name = None; pair = None; bind = []; relax = [] }
 
-abbrev pub equation_of : Names → Table → Item → Option m.Equation
-equation_of ns t x = of_both (λ l r. Some (equation l r)) (term_of ns t x.left) (right_term ns t x.right)
+abbrev pub equation_by : Limits → Names → Table → Item → Folded m.Equation
+equation_by L ns t x = term_by L ns t x.left >>= λ l. right_by L ns t x.right >>= λ r. Ok (equation l r)
 
--- all of them, or nothing where one is missing
-abbrev pub all_of : {A B : Type 0} → (A → Option B) → List A → Option (List B)
-all_of f [] = Some []
-all_of f (x ∷ xs) = of_both (λ y ys. Some (y ∷ ys)) (f x) (all_of f xs)
+-- all of them, or why the first that is missing is
+abbrev pub each : {A B : Type 0} → (A → Folded B) → List A → Folded (List B)
+each f [] = Ok []
+each f (x ∷ xs) = f x >>= λ y. each f xs >>= λ ys. Ok (y ∷ ys)
+
+-- the equations of a file, where its parameters have these values
+abbrev pub equations_by : Limits → List Statement → Table → Folded (List m.Equation)
+equations_by L file t = each (equation_by L (names_of file) t) (equations_of file)
 
 -- a parameter with its value
 abbrev pub parameter_of : List ℕ × Option Fraction → Option m.Parameter
 parameter_of p = option_map (λ v. record { name = p.0; value = v }) p.1
+
+-- the parameters with their values
+abbrev pub parameters_given : Table → Folded (List m.Parameter)
+parameters_given t = each (λ p. known p.0 (parameter_of p)) t
 
 -- a model of these names without constraints
 abbrev pub model_with : Names → List m.Parameter → List m.Equation → m.Model
@@ -68,7 +79,28 @@ model_with ns parameters equations = record {
   constraints = [];
 }
 
--- the names, parameters and equations of a file; nothing where a name, a value or an exponent is missing
+-- the model of a file: first the values of its parameters in text order, then its equations
+abbrev pub model_by : Limits → List Statement → Folded m.Model
+model_by L file =
+    values_by L file >>= λ t. parameters_given t >>= λ ps. equations_by L file t >>= λ es. Ok (model_with (names_of file) ps es)
+
+-- the model that a file means; nothing where a name, a value or an exponent is missing. It knows no limits
 abbrev pub model_of : List Statement → Option m.Model
-model_of file =
-    of_both (λ ps es. Some (model_with (names_of file) ps es)) (all_of parameter_of (values_of file)) (all_of (equation_of (names_of file) (values_of file)) (equations_of file))
+model_of file = answer (model_by exact file)
+
+-- ---- within the limits of numbers
+
+abbrev pub term_given : Names → Table → Expr → Folded sem.Term
+term_given ns t e = term_by limited ns t e
+
+abbrev pub right_given : Names → Table → Option Expr → Folded sem.Term
+right_given ns t right = right_by limited ns t right
+
+abbrev pub equation_given : Names → Table → Item → Folded m.Equation
+equation_given ns t x = equation_by limited ns t x
+
+abbrev pub equations_given : List Statement → Table → Folded (List m.Equation)
+equations_given file t = equations_by limited file t
+
+abbrev pub model_given : List Statement → Folded m.Model
+model_given file = model_by limited file

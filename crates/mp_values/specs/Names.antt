@@ -9,7 +9,7 @@ use Rattle.mp_syntax.specs.Syntax.{Shift}
 use Rattle.mp_statements.specs.Statements.{Statement}
 use Rattle.mp_tokens.specs.Literals.{number_of}
 use Rattle.mp_statements.specs.Parts as parts
-use Rattle.mp_semantics.specs.Term.{Term, endogenous, exogenous, parameter, variable}
+use Rattle.mp_semantics.specs.Term.{Term, leaf, endogenous, exogenous, parameter, variable}
 
 -- the names of each kind, in declared order
 pub record Names : Type 0 where
@@ -41,4 +41,4 @@ place_of names name = position (bytes_eq name) names
 -- a variable of this name, shifted, or a parameter; or nothing, where the name is not declared
 abbrev pub named_term : Names → List ℕ → ℤ → Option Term
 named_term names name shift =
-    option_or (option_map (λ p. variable (endogenous p) shift) (place_of names.endogenous name)) (option_or (option_map (λ p. variable (exogenous p) shift) (place_of names.exogenous name)) (option_map parameter (place_of names.parameters name)))
+    option_or (option_map (λ p. leaf (variable (endogenous p) shift)) (place_of names.endogenous name)) (option_or (option_map (λ p. leaf (variable (exogenous p) shift)) (place_of names.exogenous name)) (option_map (λ p. leaf (parameter p)) (place_of names.parameters name)))

@@ -8,7 +8,7 @@ use Rattle.mp_file.specs.declared.Atom.TheViews.{the_lemmas}
 use Rattle.mp_file.specs.Shown.{atom_of, factor_of, product_of, term_of, expr_of}
 use Rattle.mp_file.proofs.Rows.{rows}
 use Rattle.mp_expr.specs.Shown.{term_of as tree_term}
-use Rattle.mp_values.specs.Folded.{term_given}
+use Rattle.mp_values.specs.ModelOf.{term_given}
 use Rattle.mp_trees.proofs.Bound.{Fails-bind, Fails_same}
 use Rattle.mp_trees.proofs.Sums.{sum_from, product_from, sum-fails, product-fails, sum-end, product-end, term-unwrap_or}
 use Rattle.mp_trees.proofs.sum.+builder.Goals as goal

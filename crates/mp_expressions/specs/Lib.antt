@@ -1,0 +1,4 @@
+pub mod Script
+pub mod Productions
+pub mod Expressions
+pub mod InForm

@@ -1,0 +1,5 @@
+pub mod Reading
+pub mod Pieces
+pub mod Format
+pub mod Notation
+pub mod Spelling

@@ -1,0 +1,14 @@
+pub mod Told
+pub mod Spaced
+pub mod Steps
+pub mod Forms
+pub mod Trees
+pub mod Places
+pub mod Bare
+pub mod Back
+pub mod Files
+pub mod Wrong
+pub mod TextForms
+pub mod BlockForms
+pub mod Tags
+pub mod Shocks

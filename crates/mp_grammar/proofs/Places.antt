@@ -1,0 +1,64 @@
+-- What reads alike but for places is the same without places.
+use Rattle.std.proofs.Common.{◌≡◌, ℕ, zero, suc, List, [], ◌∷◌, map, inl, inr, Option, option_map, refl, sym, ap, ◌∙◌, subst}
+use Rattle.mp_tokens.specs.Tokens.{Tok}
+use Rattle.mp_statements.specs.declared.kind.NameKind.{NameKind}
+use Rattle.mp_statements.specs.declared.kind.NameKind.TheVariants as kind
+use Rattle.mp_syntax.specs.Syntax.{Named, Expr}
+use Rattle.mp_statements.specs.Statements.{Item, Statement, Declares, Assigns, Model}
+use Rattle.mp_format.specs.Format.{Alike}
+use Rattle.mp_expressions.specs.Script.{bare_name, bare}
+use Rattle.mp_expressions.specs.Expressions.{sum, atom, flat_atom}
+use Rattle.mp_expressions.specs.Productions.{Whole, expr, name, spaced_name}
+use Rattle.mp_grammar.specs.Productions.{further_name, names, declared, declares, assigns, item, model, statement, statements}
+use Rattle.mp_grammar.specs.Levels.{expression, flat, deeper}
+use Rattle.mp_grammar.specs.Statements.{bare_item, bare_statement}
+use Rattle.mp_format.proofs.Whole.{whole-alike}
+use Rattle.mp_expressions.proofs.Atoms.{flat_writing, sum_writing}
+use Rattle.mp_format.proofs.Bares.{Bares, paired, unplaced, tok_bares, both_bares, choose_bares, opt_bares, many_bares, via_bares, front_bares, back_bares, stands_bares}
+use Rattle.mp_expressions.proofs.Bares.{flat_bares, atom_bares, sum_bares}
+
+pub expr_bares : (room : ℕ) → Bares (expr (expression room)) bare
+unfolding Alike expression flat deeper
+expr_bares zero x y h =
+    sum_bares flat_atom flat_bares x y (subst (λ (A : Expr → Expr → Type 0). A x y) (whole-alike _ _ _ (sum flat_atom) flat_writing _ _ _ _) h)
+expr_bares (suc room) x y h =
+    sum_bares (atom (expression room)) (atom_bares (expression room) (expr_bares room)) x y (subst (λ (A : Expr → Expr → Type 0). A x y) (whole-alike _ _ _ (sum (atom (expression room))) (sum_writing (expression room)) _ _ _ _) h)
+
+name_bares : Bares name bare_name
+name_bares = stands_bares _ _ _ bare_name (λ u. refl)
+
+further_bares : Bares further_name bare_name
+further_bares = front_bares _ _ bare_name (stands_bares _ _ _ bare_name (λ u. refl))
+
+declared_bares : (k : NameKind) → Bares (declared k) bare_statement
+declared_bares k =
+    via_bares _ _ (map bare_name) bare_statement (Declares k) (λ ns. refl) (back_bares _ _ (map bare_name) (via_bares _ _ (paired bare_name (map bare_name)) (map bare_name) (λ p. p.0 ∷ p.1) (λ p. refl) (both_bares spaced_name _ bare_name (map bare_name) (stands_bares _ _ _ bare_name (λ u. refl)) (many_bares further_name bare_name further_bares))))
+
+declares_bares : Bares declares bare_statement
+unfolding declares
+declares_bares =
+    choose_bares _ _ _ (front_bares _ _ _ (declared_bares kind.Endogenous)) (choose_bares _ _ _ (front_bares _ _ _ (declared_bares kind.Exogenous)) (front_bares _ _ _ (declared_bares kind.Parameter)))
+
+assigns_bares : (e : Whole) → Bares (expr e) bare → Bares (assigns e) bare_statement
+unfolding assigns
+assigns_bares e h =
+    via_bares _ _ (paired bare_name bare) bare_statement (λ p. Assigns p.0 p.1) (λ p. refl) (both_bares _ _ bare_name bare (back_bares _ _ bare_name name_bares) (back_bares _ _ bare h))
+
+item_bares : (e : Whole) → Bares (expr e) bare → Bares (item e) bare_item
+unfolding item
+item_bares e h =
+    via_bares _ _ (paired bare (option_map bare)) bare_item (λ (p : Expr × Option Expr). record { left = p.0; right = p.1 }) (λ p. refl) (both_bares _ _ bare (option_map bare) h (back_bares _ _ (option_map bare) (opt_bares _ bare (front_bares _ _ bare h))))
+
+model_bares : (e : Whole) → Bares (expr e) bare → Bares (model e) bare_statement
+unfolding model
+model_bares e h =
+    via_bares _ _ (paired unplaced (map bare_item)) bare_statement (λ p. Model 0 p.1) (λ p. refl) (both_bares _ _ unplaced (map bare_item) (back_bares _ _ unplaced (tok_bares _ _)) (back_bares _ _ _ (back_bares _ _ _ (many_bares (item e) bare_item (item_bares e h)))))
+
+statement_bares : (e : Whole) → Bares (expr e) bare → Bares (statement e) bare_statement
+unfolding statement
+statement_bares e h =
+    choose_bares _ _ _ declares_bares (choose_bares _ _ _ (assigns_bares e h) (model_bares e h))
+
+pub file_bares : (e : Whole) → Bares (expr e) bare → Bares (statements e) (map bare_statement)
+unfolding statements
+file_bares e h = many_bares (statement e) bare_statement (statement_bares e h)

@@ -1,0 +1,93 @@
+-- The values of expressions of numbers and parameters, and so of parameters (Dynare manual, "Parameter initialization"), within limits of numbers or without.
+use Rattle.std.specs.Prelude.{ℕ, ℤ, pos, ◌^◌, List, [], ◌∷◌, Option, Some, None, Ok, if◌then◌else◌}
+use Rattle.mp_rational.specs.Fraction.{Fraction, neg, less, ratio_of}
+use Rattle.mp_tokens.specs.Literals.{Decimal, decimal_of}
+use Rattle.mp_syntax.specs.declared.operator.Sign.{Sign}
+use Rattle.mp_syntax.specs.declared.operator.Sign.TheVariants as sign
+use Rattle.mp_syntax.specs.declared.operator.Function.{Function}
+use Rattle.mp_syntax.specs.declared.operator.Function.TheVariants as function
+use Rattle.mp_syntax.specs.Syntax.{Expr, Number, Variable, Signed, Binary, Power, Paren, Call}
+use Rattle.mp_statements.specs.Statements.{Item, Statement, Declares, Assigns, Model}
+use Rattle.mp_values.specs.Table.{Table, unset, value_in, with_value}
+use Rattle.mp_values.specs.Names.{names_of}
+use Rattle.mp_values.specs.Limits.{Folded, ◌>>=◌, known, Limits, limited}
+
+-- the number m / 10^s
+abbrev pub decimal_value : Decimal → Fraction
+decimal_value n = ratio_of (pos n.m) (10 ^ n.s)
+
+-- a value with the sign before it
+abbrev pub with_sign : Sign → Fraction → Fraction
+with_sign sign.Plus x = x
+with_sign sign.Minus x = neg x
+
+abbrev pub with_sign_if : Option Sign → Fraction → Fraction
+with_sign_if None x = x
+with_sign_if (Some s) x = with_sign s x
+
+-- the lesser or the greater of two values
+abbrev pub chosen : Function → Fraction → Fraction → Fraction
+chosen function.Min x y = if less x y then x else y
+chosen function.Max x y = if less x y then y else x
+
+-- the exponent of a "^" at this place, of this value after its sign
+abbrev pub exponent_at : Limits → ℕ → Option Sign → Fraction → Folded ℤ
+exponent_at L at s y = L.exponent at (with_sign_if s y)
+
+-- the value of an expression where parameters have these values, or why there is none: of the first operation, in post-order, that has none
+abbrev pub value_by : Limits → Table → Expr → Folded Fraction
+value_by L t (Number literal at) = L.literal at (decimal_of literal) >>= λ n. Ok (decimal_value n)
+value_by L t (Variable name shift) = known name.name (value_in t name.name)
+value_by L t (Signed s a) = value_by L t a >>= λ x. Ok (with_sign s x)
+value_by L t (Binary o a at b) = value_by L t a >>= λ x. value_by L t b >>= λ y. L.result o at x y
+value_by L t (Power a at s b) =
+    value_by L t a >>= λ x. value_by L t b >>= λ y. exponent_at L at s y >>= λ k. L.raised at x k
+value_by L t (Paren a) = value_by L t a
+value_by L t (Call f a b) = value_by L t a >>= λ x. value_by L t b >>= λ y. Ok (chosen f x y)
+
+-- the parameters after these statements, in text order: an assignment gives its parameter the value that its expression has then
+abbrev pub assigned_by : Limits → Table → List Statement → Folded Table
+assigned_by L t [] = Ok t
+assigned_by L t (Declares kind names ∷ more) = assigned_by L t more
+assigned_by L t (Assigns name value ∷ more) =
+    value_by L t value >>= λ x. assigned_by L (with_value name.name (Some x) t) more
+assigned_by L t (Model at items ∷ more) = assigned_by L t more
+
+-- the parameters of a file with the values that they have at last
+abbrev pub values_by : Limits → List Statement → Folded Table
+values_by L file = assigned_by L (unset (names_of file).parameters) file
+
+-- ---- within the limits of numbers
+
+abbrev pub folded : Table → Expr → Folded Fraction
+folded t e = value_by limited t e
+
+abbrev pub assigned : Table → List Statement → Folded Table
+assigned t file = assigned_by limited t file
+
+abbrev pub values_given : List Statement → Folded Table
+values_given file = values_by limited file
+
+-- whether each exponent has a value that is near; the first one, in text order, that has not is refused
+abbrev pub exponents_given : Table → Expr → Folded (Unit {0})
+exponents_given t (Number literal at) = Ok tt
+exponents_given t (Variable name shift) = Ok tt
+exponents_given t (Signed s a) = exponents_given t a
+exponents_given t (Binary o a at b) = exponents_given t a >>= λ _. exponents_given t b
+exponents_given t (Power a at s b) =
+    exponents_given t a >>= λ _. folded t b >>= λ y. exponent_at limited at s y >>= λ k. Ok tt
+exponents_given t (Paren a) = exponents_given t a
+exponents_given t (Call f a b) = exponents_given t a >>= λ _. exponents_given t b
+
+-- those of both sides of an equation
+abbrev pub right_exponents : Table → Option Expr → Folded (Unit {0})
+right_exponents t None = Ok tt
+right_exponents t (Some e) = exponents_given t e
+
+abbrev pub item_exponents : Table → Item → Folded (Unit {0})
+item_exponents t x = exponents_given t x.left >>= λ _. right_exponents t x.right
+
+-- those of these equations
+abbrev pub all_exponents : Table → List Item → Folded (Unit {0})
+all_exponents t [] = Ok tt
+all_exponents t (x ∷ xs) = item_exponents t x >>= λ _. all_exponents t xs
