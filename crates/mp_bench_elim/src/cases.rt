@@ -118,7 +118,6 @@ pub(crate) fn large<L: Ledger>(
         Ok(band) => band,
         Err(_) => bail!("no memory"),
     };
-    band.clear();
     fill(&mut band, pattern, size);
     eliminate(&mut band, THRESHOLD, steps)?;
     ends(rt, &band)
@@ -155,7 +154,6 @@ pub(crate) fn twice<L: Ledger>(
         Ok(band) => band,
         Err(_) => bail!("no memory"),
     };
-    band.clear();
     fill_chain(&mut band);
     eliminate(&mut band, THRESHOLD, steps)?;
     ends(rt, &band)?;

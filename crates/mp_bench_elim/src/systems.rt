@@ -55,7 +55,6 @@ fn eliminate_next<L: Ledger>(
         Ok(band) => band,
         Err(_) => bail!("no memory"),
     };
-    band.clear();
     read_rows(&mut band, words)?;
     read_rights(&mut band, words)?;
     match band.eliminate(threshold, steps) {
