@@ -1,10 +1,11 @@
 -- The lists of a system after a write, and the places of a band.
 use Rattle.std.proofs.Common.{◌≡◌, ℕ, ℤ, zero, suc, ◌+◌, ◌-◌, ◌*◌, ◌/◌, ◌^◌, ◌<◌, ◌≤◌, max, pos, List, [], map, length, get_or, set, replicate, Result, Ok, Err, Some, MatchResult, refl, ap, sym, ◌∙◌, subst, arith, ◌⊎◌, inl, inr, get_or-set_other, get_or-set_same}
-use Rattle.std.specs.Prelude.{slice_get}
+use Rattle.std.specs.Prelude.{slice_get, IsTrue, nat_le, ◌↔◌}
 use Rattle.std.specs.List.{range_with_len}
 use Rattle.std.proofs.Math.ListN.{length-set}
 use Rattle.std.proofs.Math.Nat.{div-mul-le_self, lt-div-mul-add, div-eq_of_lt-le, mul-le-mul_right, mul_assoc}
 use Rattle.std.proofs.lemmas.Bool.{cases_eq}
+use Rattle.std.proofs.lemmas.Bool.Decides.{nat_tests}
 use Rattle.std.proofs.lemmas.List.{get_or-replicate, length-replicate}
 use Rattle.std.proofs.lemmas.Option.{slice_get-get_or}
 use Rattle.std.proofs.lemmas.List.FromFn.{fill_by_all, get_or-map-range_with_len, length-map-range_with_len}
@@ -129,6 +130,33 @@ unfolding blocks_of
 row_kept t n s f b row e h p q =
     let l : row ≤ t * n = subst (λ (c : Blocks). row ≤ count_of c) (sym e) q in
     let k = h.count in omega (arith, p, l, k)
+
+pub some_size : (t n : ℕ) (s : System) (b : Blocks) (row : ℕ) → blocks_of t n s ≡ b → 1 ≤ row → row ≤ count_of b → 0 < n
+unfolding blocks_of
+some_size t n s b row e p q = some_rows t n row p (subst (λ (c : Blocks). row ≤ count_of c) (sym e) q)
+
+-- the test of a place
+pub place_then : (t n : ℕ) (s : System) (b : Blocks) (row column : ℕ) → blocks_of t n s ≡ b → 1 ≤ row → 1 ≤ column → row ≤ count_of b → column ≤ count_of b
+    → (row - 1) / n ≤ (column - 1) / n + 1 → IsTrue (nat_le ((column - 1) / n) ((row - 1) / n + 1)) ↔ IsPlace b row column
+unfolding blocks_of
+place_then t n s b row column e r c rl cl h =
+    let z : n ≡ b.size = ap (λ (x : Blocks). x.size) e in
+    (
+      λ p. record {
+        from = (r, c);
+        within = (rl, cl);
+        low = subst (λ (x : ℕ). (row - 1) / x ≤ (column - 1) / x + 1) z h;
+        high = subst (λ (x : ℕ). (column - 1) / x ≤ (row - 1) / x + 1) z (grind (arith, nat_tests));
+      },
+      λ p. let k : (column - 1) / n ≤ (row - 1) / n + 1 = subst (λ (x : ℕ). (column - 1) / x ≤ (row - 1) / x + 1) (sym z) p.high in grind (arith, nat_tests),
+    )
+
+pub place_else : (t n : ℕ) (s : System) (b : Blocks) (row column : ℕ) → blocks_of t n s ≡ b → (column - 1) / n + 1 < (row - 1) / n → IsPlace b row column → ⊥
+unfolding blocks_of
+place_else t n s b row column e h p =
+    let z : n ≡ b.size = ap (λ (x : Blocks). x.size) e in
+    let k : (row - 1) / n ≤ (column - 1) / n + 1 = subst (λ (x : ℕ). (row - 1) / x ≤ (column - 1) / x + 1) (sym z) p.low in
+    omega (arith, h, k)
 
 -- a place in the shape leaves the system in it
 pub put_shape : (n : ℕ) (s : System) (i k : ℕ) (x : ℤ) → 0 < n → i / n ≤ k / n + 1 → k / n ≤ i / n + 1 → IsTridiagonal n s → IsTridiagonal n (put s i k x)

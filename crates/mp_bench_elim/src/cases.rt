@@ -1,0 +1,202 @@
+// Large bands.
+ghost use Rattle.std.specs.Prelude.{◌≡◌, ◌*◌, ◌<◌, ◌≤◌};
+ghost use Rattle.mp_band.specs.Blocks.{count_of, IsInShape};
+
+use anyhow::{Result, bail};
+use mp_band::Band;
+use mp_base::Steps;
+use mp_fix::Fix;
+use std::sync::ledger::Ledger;
+
+const ONE: i128 = 1_000_000_000_000;
+
+const THRESHOLD: i128 = 1_000;
+
+/// Which entries a row has: all places of the band, or four to six.
+#[derive(Clone, Copy)]
+pub(crate) enum Pattern {
+    Full,
+    Near,
+}
+
+/// Puts an entry where the band has its place.
+pub(crate) fn put(band: &mut Band, row: u32, column: u32, units: i128)
+    requires shape { IsInShape band.old }
+    ensures shape { IsInShape band.new }
+    ensures count { count_of band.new ≡ count_of band.old }
+{
+    if !band.has_place(row, column) {
+        return;
+    }
+    match Fix::of_units(units) {
+        Ok(value) => band.put(row, column, value),
+        Err(_) => {}
+    }
+}
+
+/// Puts the right side of a row.
+pub(crate) fn put_right(band: &mut Band, row: u32, units: i128)
+    requires shape { IsInShape band.old }
+    requires from { 1 ≤ row }
+    requires row { row ≤ count_of band.old }
+    ensures shape { IsInShape band.new }
+    ensures count { count_of band.new ≡ count_of band.old }
+{
+    match Fix::of_units(units) {
+        Ok(value) => band.put_right(row, value),
+        Err(_) => {}
+    }
+}
+
+fn value_at(row: u32, column: u32) -> i128 {
+    if row == column {
+        return 40_000_000_000_000;
+    }
+    ((row as i128 * 31 + column as i128 * 17) % 97 - 48) * 10_000_000_000
+}
+
+fn fill_row(band: &mut Band, row: u32, size: u32)
+    requires shape { IsInShape band.old }
+    ensures shape { IsInShape band.new }
+    ensures count { count_of band.new ≡ count_of band.old }
+{
+    let reach = size.saturating_mul(2);
+    for column in row.saturating_sub(reach)..row.saturating_add(reach) {
+        put(band, row, column, value_at(row, column));
+    }
+}
+
+fn fill_near(band: &mut Band, row: u32, size: u32)
+    requires shape { IsInShape band.old }
+    ensures shape { IsInShape band.new }
+    ensures count { count_of band.new ≡ count_of band.old }
+{
+    put(band, row, row, 1_000_000_000_000);
+    put(band, row, row.saturating_add(1), -50_000_000_000);
+    put(band, row, row.saturating_sub(size), -400_000_000_000);
+    put(band, row, row.saturating_add(size), -5_000_000_000);
+    if row % 3 == 0 {
+        put(band, row, row.saturating_sub(1), -20_000_000_000);
+    }
+    if row % 5 == 0 {
+        put(
+            band,
+            row,
+            row.saturating_sub(size).saturating_add(1),
+            -30_000_000_000,
+        );
+    }
+}
+
+fn fill(band: &mut Band, pattern: Pattern, size: u32)
+    requires shape { IsInShape band.old }
+    ensures shape { IsInShape band.new }
+    ensures count { count_of band.new ≡ count_of band.old }
+{
+    for at in 0..band.count() {
+        let row = at + 1;
+        match pattern {
+            Pattern::Full => fill_row(band, row, size),
+            Pattern::Near => fill_near(band, row, size),
+        }
+        put_right(band, row, row as i128 % 7 * 1_000_000_000_000);
+    }
+}
+
+/// Fills a band of so many periods, and prints its first and its last answer.
+pub(crate) fn large<L: Ledger>(
+    rt: &(impl Print + AllocGlobal),
+    pattern: Pattern,
+    periods: u32,
+    size: u32,
+    steps: &mut Steps<L>,
+) -> Result<()> {
+    if periods.checked_mul(size).is_none() {
+        bail!("too many rows");
+    }
+    let mut band = match Band::with_shape(rt.alloc(), periods, size) {
+        Ok(band) => band,
+        Err(_) => bail!("no memory"),
+    };
+    fill(&mut band, pattern, size);
+    eliminate(&mut band, THRESHOLD, steps)?;
+    ends(rt, &band)
+}
+
+fn eliminate<L: Ledger>(band: &mut Band, threshold: i128, steps: &mut Steps<L>) -> Result<()>
+    requires shape { IsInShape band.old }
+    ensures count { count_of band.new ≡ count_of band.old }
+{
+    let Ok(threshold) = Fix::of_units(threshold) else {
+        bail!("no threshold");
+    };
+    match band.eliminate(threshold, steps) {
+        Ok(()) => Ok(()),
+        Err(_) => bail!("refused"),
+    }
+}
+
+/// The first and the last answer.
+fn ends(rt: &impl Print, band: &Band) -> Result<()> {
+    let count = band.count();
+    if count > 0 {
+        println!(rt; "{} {}", band.answer(1).units(), band.answer(count).units())?;
+    }
+    Ok(())
+}
+
+/// Two systems of 2,000 periods of 20 rows in one band.
+pub(crate) fn twice<L: Ledger>(
+    rt: &(impl Print + AllocGlobal),
+    steps: &mut Steps<L>,
+) -> Result<()> {
+    let mut band = match Band::with_shape(rt.alloc(), 2_000, 20) {
+        Ok(band) => band,
+        Err(_) => bail!("no memory"),
+    };
+    fill_chain(&mut band);
+    eliminate(&mut band, THRESHOLD, steps)?;
+    ends(rt, &band)?;
+    band.clear();
+    fill_apart(&mut band);
+    eliminate(&mut band, THRESHOLD, steps)?;
+    ends(rt, &band)
+}
+
+fn fill_chain(band: &mut Band)
+    requires shape { IsInShape band.old }
+    ensures shape { IsInShape band.new }
+    ensures count { count_of band.new ≡ count_of band.old }
+{
+    for at in 0..band.count() {
+        chain_row(band, at + 1);
+    }
+}
+
+fn fill_apart(band: &mut Band)
+    requires shape { IsInShape band.old }
+    ensures shape { IsInShape band.new }
+    ensures count { count_of band.new ≡ count_of band.old }
+{
+    for at in 0..band.count() {
+        put(band, at + 1, at + 1, 2 * ONE);
+        put_right(band, at + 1, 4 * ONE);
+    }
+}
+
+/// 2 in its own column, and behind the first period 1 in the one of the period before.
+fn chain_row(band: &mut Band, row: u32)
+    requires shape { IsInShape band.old }
+    requires from { 1 ≤ row }
+    requires row { row ≤ count_of band.old }
+    ensures shape { IsInShape band.new }
+    ensures count { count_of band.new ≡ count_of band.old }
+{
+    put(band, row, row, 2 * ONE);
+    if row > 20 {
+        put(band, row, row - 20, ONE);
+        put_right(band, row, 3 * ONE);
+    } else {
+        put_right(band, row, 2 * ONE);
+    }
+}
