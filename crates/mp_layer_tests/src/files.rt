@@ -1,14 +1,10 @@
-// From a text to its file, and from a file to its print, its names, its values and its model.
+// From a text to its file, and from a file to its print.
 ghost use Rattle.std.specs.Prelude.{◌-◌, ◌<◌, ◌^◌, length};
 
-use mp_decl::{declare, far_shift, greatest_height};
-use mp_frac::Frac;
+use mp_base::Bytes;
 use mp_gram::{ParseFault, parse};
 use mp_lex::lex;
-use mp_names::NameId;
 use mp_print::print;
-use mp_print_model::print_model;
-use mp_trees::model;
 use std::alloc::Global;
 use std::test::Fail;
 
@@ -71,28 +67,21 @@ const TEXT: &[u8] =
 const PRINTED: &[u8] =
     b"parameters a b;\na = 0.50;\nb = -a*(2-.5e1);\nvarexo e;\nvar y x;\nmodel;\n-x(+01)*2.50/(a)-min(1,y)^-2 = max(y,e(-3))^(4*a);\nx;\nend;\n";
 
-const CANONICAL: &[u8] =
-    b"var y x;\nvarexo e;\nparameters a b;\na = 1/2;\nb = 3/2;\nmodel;\n-x(+1)*2.5/a-min(1,y)^(-2) = max(y,e(-3))^2;\nx = 0;\nend;\n";
+// The print of the file that the text is.
+fn printed(alloc: Global, text: &[u8]) -> Result<Bytes, Fail>
+    requires { length text.now < 2 ^ 32 - 1 }
+{
+    let tokens = lex(alloc, text)?;
+    let file = parse(alloc, &tokens)?;
+    match print(alloc, &file) {
+        Ok(bytes) => Ok(bytes),
+        Err(fault) => Err(fault.into()),
+    }
+}
 
 #[test]
-fn a_file_is_printed_and_means_a_model(rt: HostRuntime) -> Result<(), Fail> {
-    let alloc = rt.alloc();
-    let tokens = lex(alloc, TEXT)?;
-    let file = parse(alloc, &tokens)?;
-    let printed = print(alloc, &file).ok().ok_or("no memory")?;
-    assert_eq!(rt; printed.as_slice(), PRINTED);
-    assert_eq!(rt; greatest_height(&file), 5);
-    assert!(rt; far_shift(&file).is_none());
-
-    let declared = declare(alloc, &tokens, &file, TEXT.len() as u32)?;
-    assert!(rt; declared.names.find(b"x") == Some(NameId::Endo(2)));
-    assert!(rt; declared.names.find(b"z").is_none());
-    assert!(rt; declared.values.get(b"b") == Some(Frac::new(3, 2)?));
-    let model = model(alloc, &file, &declared.names, &declared.values)
-        .ok()
-        .ok_or("no model")?;
-    assert_eq!(rt; model.equations().len(), 2);
-    let canonical = print_model(alloc, &model).ok().ok_or("no memory")?;
-    assert_eq!(rt; canonical.as_slice(), CANONICAL);
+fn a_file_is_printed_as_it_was_read(rt: HostRuntime) -> Result<(), Fail> {
+    let bytes = printed(rt.alloc(), TEXT)?;
+    assert_eq!(rt; bytes.as_slice(), PRINTED);
     Ok(())
 }

@@ -1,4 +1,4 @@
-//! Tests of the layers between a text and the text of its model.
+//! Tests of the layers over a text: tokens, files and their print, and the sizes of trees.
 #![tactic(auto)]
 
 #[cfg(test)]
