@@ -2,7 +2,7 @@
 
 use crate::{WordFault, read_words};
 use mp_base::{Job, NoMemory, WordList};
-use mp_mexpr::Value;
+use mp_mvalue::Value;
 use std::alloc::Global;
 use std::test::Fail;
 
