@@ -1,4 +1,5 @@
 pub mod Lines
+pub mod Meant
 pub mod Trees
 pub mod Stacks
 pub mod Weights

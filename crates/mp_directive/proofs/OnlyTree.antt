@@ -9,7 +9,8 @@ use Rattle.mp_directive.specs.Tree.{Node, Choice, Nodes, Done, with_node, Branch
 use Rattle.mp_directive.specs.Groups.{Group, OpenChoice, OpenLoop, Reading, opened, further, is_otherwise, whole, groups, nothing_read}
 use Rattle.mp_directive.specs.Structure.{NodesStand, none, more, NodeStands, by_itself, include, choice, loop, FurtherStand, last, next, contents}
 use Rattle.mp_directive.proofs.Contents.{read_from, read-after, read-line, groups-contents}
-use Rattle.mp_directive.proofs.Joined.{joined, joined-none, joined-node, joined_branches, joined-last, joined-branch}
+use Rattle.mp_directive.proofs.Joined.{joined-none, joined-node, joined_branches, joined-last, joined-branch}
+use Rattle.mp_directive.specs.Tree.{joined}
 
 -- a group opens where there is room
 pub opens : (g : Group) (gs : List Group) → length gs < 100 → opened g gs ≡ Ok (record { groups = g ∷ gs; nodes = Done })

@@ -15,6 +15,7 @@ use Rattle.mp_directive.specs.declared.tree.Node.TheVariants as n
 use Rattle.mp_directive.specs.declared.tree.Branch.{Branch}
 use Rattle.mp_directive.specs.declared.tree.Head.{Head}
 use Rattle.mp_directive.specs.declared.content.Condition.{Condition}
+use Rattle.mp_directive.proofs.Joined.{joined-last-node}
 use Rattle.mp_directive.proofs.Trees.{nodes-push, Choice-is, Loop-is}
 
 pub stack-push : (xs : List Group) (x : Group) → stack_of (xs ++ x ∷ []) ≡ group_of x ∷ stack_of xs
@@ -44,13 +45,13 @@ full xs h many = rw (stack-length xs) (grind (arith, nat_tests))
 pub loop-ends : (gs more : List Group) (outer body ns : List Node) (head : Head) → gs ≡ more ++ o.Loop outer head ∷ [] → ns ≡ outer ++ n.Loop head body ∷ [] → g.loop_ended (nodes_of body) (stack_of gs) ≡ Ok (record { groups = stack_of more; nodes = nodes_of ns })
 loop-ends gs more outer body ns head popped pushed =
     ap (g.loop_ended (nodes_of body)) (ap stack_of popped ∙ stack-push more (o.Loop outer head))
-    ∙ ap (λ x. Ok (record { groups = stack_of more; nodes = x })) (sym (ap nodes_of pushed ∙ nodes-push outer (n.Loop head body) ∙ ap (t.with_node (nodes_of outer)) (Loop-is head body)))
+    ∙ ap (λ x. Ok (record { groups = stack_of more; nodes = x })) (sym (ap nodes_of pushed ∙ nodes-push outer (n.Loop head body) ∙ ap (t.joined (nodes_of outer)) (Loop-is head body t.Done) ∙ joined-last-node (nodes_of outer) (t.Loop head.line head.name.now head.array.now (nodes_of body))))
 
 pub choice-ends : (gs more : List Group) (outer body ns : List Node) (opener line : ℕ) (finished branches : List Branch) (c : Condition) → gs ≡ more ++ o.Choice outer opener finished line c ∷ [] → t.with_branch (branches_of finished) line (condition_of c) (nodes_of body) ≡ branches_of branches → ns ≡ outer ++ n.Choice branches ∷ [] → g.choice_ended (nodes_of body) (stack_of gs) ≡ Ok (record { groups = stack_of more; nodes = nodes_of ns })
 choice-ends gs more outer body ns opener line finished branches c popped made pushed =
     ap (g.choice_ended (nodes_of body)) (ap stack_of popped ∙ stack-push more (o.Choice outer opener finished line c))
     ∙ ap (λ x. Ok (record { groups = stack_of more; nodes = t.with_node (nodes_of outer) (t.Choice x) })) made
-    ∙ ap (λ x. Ok (record { groups = stack_of more; nodes = x })) (sym (ap nodes_of pushed ∙ nodes-push outer (n.Choice branches) ∙ ap (t.with_node (nodes_of outer)) (Choice-is branches)))
+    ∙ ap (λ x. Ok (record { groups = stack_of more; nodes = x })) (sym (ap nodes_of pushed ∙ nodes-push outer (n.Choice branches) ∙ ap (t.joined (nodes_of outer)) (Choice-is branches t.Done) ∙ joined-last-node (nodes_of outer) (t.Choice (branches_of branches))))
 
 outermost-last : (h : g.Group) (zs : List g.Group) (y : g.Group) → g.outermost h (zs ++ y ∷ []) ≡ y
 outermost-last h [] y = refl
@@ -68,3 +69,8 @@ whole-open (y ∷ ys) x ns e =
     ap (λ gs. g.whole (record { groups = gs; nodes = ns })) (reverse-append (group_of y ∷ []) (map group_of ys))
     ∙ whole-last (stack_of ys) (group_of y) ns
     ∙ ap (λ h. Err (record { kind = k.Unbalanced; line = g.opener (group_of h) })) (sym same)
+
+-- what is there, or else the other
+abbrev pub from_ok : {X E : Type 0} → X → Result X E → X
+from_ok other (Ok x) = x
+from_ok other (Err e) = other

@@ -1,8 +1,8 @@
 -- A line makes a tree heavier by one at most.
-use Rattle.std.proofs.Common.{◌≡◌, ℕ, ◌+◌, ◌≤◌, List, [], ◌∷◌, length, Result, Ok, Err, Bool, true, false, nat_lt, refl, ap, subst, arith}
+use Rattle.std.proofs.Common.{◌≡◌, ℕ, zero, suc, ◌+◌, ◌≤◌, List, [], ◌∷◌, length, Result, Ok, Err, Bool, true, false, nat_lt, refl, ap, subst, arith}
 use Rattle.mp_base.specs.declared.kinds.MacroKind.{MacroKind}
 use Rattle.mp_directive.specs.Directives as d
-use Rattle.mp_directive.specs.Tree.{Nodes, Done, Then, Node, Branches, NoBranch, Branch, Simple, Included, Choice, Loop, with_node, with_branch, weight, nodes_weight, branches_weight}
+use Rattle.mp_directive.specs.Tree.{Nodes, Done, Then, Node, Branches, NoBranch, Branch, Simple, Included, Choice, Loop, with_node, with_branch, joined, line_before, run_before, weight, nodes_weight, branches_weight}
 use Rattle.mp_directive.specs.Groups.{Group, OpenChoice, OpenLoop, Reading, opened, further, choice_ended, loop_ended, after_line, is_otherwise, whole}
 
 -- without the choice or loop itself, which is counted at its end
@@ -74,3 +74,27 @@ whole-by (g ∷ gs) m ns e = cc
 
 pub whole-weight : (r : Reading) (ns : Nodes) → whole r ≡ Ok ns → nodes_weight ns ≤ reading_weight r
 whole-weight r ns e = whole-by r.groups r.nodes ns e
+
+line-weight : (line : ℕ) (c : d.Content) (ns : Nodes) → nodes_weight (line_before line c ns) ≤ nodes_weight ns + 1
+line-weight line (d.Alone s) ns = omega arith
+line-weight line (d.Include e) ns = omega arith
+line-weight line (d.If c) ns = omega arith
+line-weight line (d.Further c) ns = omega arith
+line-weight line d.EndIf ns = omega arith
+line-weight line (d.For name array) ns = omega arith
+line-weight line d.EndFor ns = omega arith
+line-weight line d.IllFormed ns = omega arith
+
+run-weight : (line n : ℕ) (ls : List (List ℕ)) → nodes_weight (run_before line n ls Done) ≤ n
+run-weight line zero ls = omega arith
+run-weight line (suc n) [] = omega arith
+run-weight line (suc n) (l ∷ ls) = omega (arith, run-weight (line + 1) n ls, line-weight line (d.content_of l) (run_before (line + 1) n ls Done))
+
+joined-weight : (ns ms : Nodes) → nodes_weight (joined ns ms) ≡ nodes_weight ns + nodes_weight ms
+joined-weight Done ms = omega arith
+joined-weight (Then n ns) ms = omega (arith, joined-weight ns ms)
+
+-- a run makes a tree heavier by its lines at most
+pub run-grows : (line n : ℕ) (ls : List (List ℕ)) (r s : Reading) → s ≡ record { groups = r.groups; nodes = joined r.nodes (run_before line n ls Done) } → reading_weight s ≤ reading_weight r + n
+run-grows line n ls r s e =
+    omega (arith, ap reading_weight e, joined-weight r.nodes (run_before line n ls Done), run-weight line n ls)

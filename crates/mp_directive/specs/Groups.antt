@@ -1,11 +1,11 @@
 -- How lines stand in groups: `@#if` to `@#endif` and `@#for` to `@#endfor`, inside one another.
-use Rattle.std.specs.Prelude.{ℕ, ◌+◌, List, [], ◌∷◌, length, Bool, true, false, nat_lt, if◌then◌else◌, Result, Ok, Err}
+use Rattle.std.specs.Prelude.{◌≡◌, ℕ, ◌+◌, List, [], ◌∷◌, length, Bool, true, false, nat_lt, if◌then◌else◌, Result, Ok, Err}
 use Rattle.mp_base.specs.declared.kinds.MacroKind.{MacroKind}
 use Rattle.mp_base.specs.declared.kinds.MacroKind.TheVariants.{BadDirective, Unbalanced, NestDeep}
 use Rattle.mp_directive.specs.Results.{◌>>=◌}
 use Rattle.mp_directive.specs.Lines.{lines}
 use Rattle.mp_directive.specs.Directives.{Condition, Otherwise, Content, Alone, Include, If, Further, EndIf, For, EndFor, IllFormed, content_of}
-use Rattle.mp_directive.specs.Tree.{Nodes, Done, Node, Simple, Included, Choice, Loop, with_node, Branches, NoBranch, with_branch}
+use Rattle.mp_directive.specs.Tree.{Nodes, Done, Node, Simple, Included, Choice, Loop, with_node, joined, run_before, Branches, NoBranch, with_branch}
 
 -- why a file has no tree, and the line
 pub record Fault : Type 0 where
@@ -99,3 +99,7 @@ whole r = by r.groups
 -- the tree of a file's lines, or the first line that is at fault; a missing end comes after all lines
 abbrev pub groups : List ℕ → Result Nodes Fault
 groups bytes = after_lines 1 (lines bytes) nothing_read >>= whole
+
+-- where so many first lines are by themselves, what is read after them and further lines
+abbrev pub AreAlone : List (List ℕ) → ℕ → List (List ℕ) → Type 0
+AreAlone all count rest = (line : ℕ) (r : Reading) → after_lines line all r ≡ after_lines (line + count) rest (record { groups = r.groups; nodes = joined r.nodes (run_before line count all Done) })

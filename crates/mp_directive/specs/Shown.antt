@@ -1,6 +1,7 @@
 -- What the code reads, as the definitions see it.
-use Rattle.std.specs.Prelude.{List, [], ◌∷◌, option_map}
+use Rattle.std.specs.Prelude.{ℕ, ◌-◌, List, [], ◌∷◌, option_map}
 use Rattle.mp_directive.specs.Directives as d
+use Rattle.mp_directive.specs.Lines.{lines}
 use Rattle.mp_directive.specs.Tree as t
 use Rattle.mp_directive.specs.Groups as g
 use Rattle.mp_directive.specs.declared.content.Condition.{Condition}
@@ -9,7 +10,7 @@ use Rattle.mp_directive.specs.declared.content.Statement.{Statement}
 use Rattle.mp_directive.specs.declared.content.Statement.TheVariants.{Plain, Define, Echo, Error}
 use Rattle.mp_directive.specs.declared.content.Content.{Content}
 use Rattle.mp_directive.specs.declared.content.Content.TheVariants.{Alone, Include, If, Further, EndIf, For, EndFor, IllFormed}
-use Rattle.mp_directive.specs.declared.tree.Node.{Node, Simple, Included, Choice', Loop', Row_of-Branch, end_of-Branch, more_of-Branch, Row_of-Node, end_of-Node, more_of-Node}
+use Rattle.mp_directive.specs.declared.tree.Node.{Node, Run, Included, Choice', Loop', Row_of-Branch, end_of-Branch, more_of-Branch, Row_of-Node, end_of-Node, more_of-Node}
 use Rattle.mp_directive.specs.declared.tree.Branch.{Branch, When', Otherwise'}
 use Rattle.mp_directive.specs.declared.groups.Group.{Group}
 use Rattle.mp_directive.specs.declared.groups.Group.TheVariants as o
@@ -37,15 +38,16 @@ shown EndFor = d.EndFor
 shown IllFormed = d.IllFormed
 
 abbrev mutual
-  pub node_of : Node → t.Node
-  node_of (Simple line s) = t.Simple line (statement_of s)
-  node_of (Included line expr) = t.Included line expr.now
-  node_of (Choice' shape row) = t.Choice (branches_in row)
-  node_of (Loop' head shape row) = t.Loop head.line head.name.now head.array.now (nodes_in row)
+  -- before further nodes
+  pub node_before : Node → t.Nodes → t.Nodes
+  node_before (Run first end text) more = t.run_before first (end - first) (lines text.now) more
+  node_before (Included line expr) more = t.Then (t.Included line expr.now) more
+  node_before (Choice' shape row) more = t.Then (t.Choice (branches_in row)) more
+  node_before (Loop' head shape row) more = t.Then (t.Loop head.line head.name.now head.array.now (nodes_in row)) more
 
   pub nodes_in : {n : _} → Row_of-Node n → t.Nodes
   nodes_in end_of-Node = t.Done
-  nodes_in (more_of-Node x rest) = t.Then (node_of x) (nodes_in rest)
+  nodes_in (more_of-Node x rest) = node_before x (nodes_in rest)
 
   pub branches_in : {n : _} → Row_of-Branch n → t.Branches
   branches_in end_of-Branch = t.NoBranch
@@ -58,7 +60,7 @@ abbrev mutual
 
 abbrev pub nodes_of : List Node → t.Nodes
 nodes_of [] = t.Done
-nodes_of (x ∷ xs) = t.Then (node_of x) (nodes_of xs)
+nodes_of (x ∷ xs) = node_before x (nodes_of xs)
 
 abbrev pub branches_of : List Branch → t.Branches
 branches_of [] = t.NoBranch

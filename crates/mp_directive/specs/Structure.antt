@@ -1,11 +1,15 @@
 -- What tree lines have: the grammar of groups, as a relation. And where lines that have none are at fault.
-use Rattle.std.specs.Prelude.{◌≡◌, ℕ, suc, ◌+◌, ◌<◌, ◌≤◌, List, [], ◌∷◌, ◌++◌, map, length, take, false, Option, Some, None}
+use Rattle.std.specs.Prelude.{◌≡◌, ℕ, suc, ◌+◌, ◌<◌, ◌≤◌, List, [], ◌∷◌, ◌++◌, map, length, take, false, Option, Some, None, Result, Ok, Err}
 use Rattle.mp_base.specs.declared.kinds.MacroKind.{MacroKind}
 use Rattle.mp_base.specs.declared.kinds.MacroKind.TheVariants.{BadDirective, Unbalanced, NestDeep}
 use Rattle.mp_directive.specs.Lines.{lines}
 use Rattle.mp_directive.specs.Directives.{Condition, Statement, Content, Alone, Include, If, Further, EndIf, For, EndFor, IllFormed, content_of}
 use Rattle.mp_directive.specs.Tree.{Node, Simple, Included, Choice, Loop, Nodes, Done, Then, Branches, NoBranch, Branch}
 use Rattle.mp_directive.specs.Groups.{Fault, is_otherwise}
+use Rattle.mp_directive.specs.Shown.{nodes_of}
+use Rattle.mp_directive.specs.declared.tree.Node.{Node as Node'}
+use Rattle.mp_directive.specs.declared.fault.TreeFault.{TreeFault}
+use Rattle.mp_directive.specs.declared.fault.TreeFault.TheVariants as t
 
 mutual
   -- in lines of these contents, the first of which has this number, these nodes stand; at most so many groups are open in them
@@ -69,3 +73,15 @@ pub record LacksEnd (cs : List Content) (f : Fault) : Type 0 where
   pub goes_on : Begins cs
   pub complete : HasTree (take before cs)
   pub longest : (n : ℕ) → before < n → n ≤ length cs → ¬ HasTree (take n cs)
+
+-- by the grammar of groups: the tree that stands in the lines, or the first own fault
+pub data Means (cs : List Content) : Result Nodes Fault → Type 0 where
+  tree : (nodes : Nodes) → NodesStand 100 1 cs nodes → Means cs (Ok nodes)
+  stops : (f : Fault) → StopsAt cs f → Means cs (Err f)
+  ends_open : (f : Fault) → LacksEnd cs f → Means cs (Err f)
+
+-- what was returned is what these bytes mean, unless there was no memory
+abbrev pub GivesMeant : List ℕ → Result (List Node') TreeFault → Type 0
+GivesMeant bytes (Ok nodes) = Means (contents bytes) (Ok (nodes_of nodes))
+GivesMeant bytes (Err (t.Refused kind line)) = Means (contents bytes) (Err (record { kind = kind; line = line }))
+GivesMeant bytes (Err t.NoMemory) = Unit {0}

@@ -1,6 +1,6 @@
 -- The tree of a file's lines.
-use Rattle.std.specs.Prelude.{ℕ, ◌+◌, List}
-use Rattle.mp_directive.specs.Directives.{Condition, Statement}
+use Rattle.std.specs.Prelude.{ℕ, zero, suc, ◌+◌, List, [], ◌∷◌, Bool, true, false}
+use Rattle.mp_directive.specs.Directives.{Condition, Statement, Content, Alone, content_of}
 
 mutual
   -- a line by itself, an include, a choice of branches, or a body for each element of an array; with line numbers from 1
@@ -24,6 +24,27 @@ mutual
 abbrev pub with_node : Nodes → Node → Nodes
 with_node Done n = Then n Done
 with_node (Then m ns) n = Then m (with_node ns n)
+
+-- these nodes and then those
+abbrev pub joined : Nodes → Nodes → Nodes
+joined Done ms = ms
+joined (Then n ns) ms = Then n (joined ns ms)
+
+-- a line by itself
+abbrev pub is_alone : Content → Bool
+is_alone (Alone s) = true
+is_alone _ = false
+
+-- a line by itself, before further nodes
+abbrev pub line_before : ℕ → Content → Nodes → Nodes
+line_before line (Alone s) more = Then (Simple line s) more
+line_before line _ more = more
+
+-- so many first lines, by themselves, the first of which has this number, before further nodes
+abbrev pub run_before : (line count : ℕ) → List (List ℕ) → Nodes → Nodes
+run_before line zero ls more = more
+run_before line (suc n) [] more = more
+run_before line (suc n) (l ∷ ls) more = line_before line (content_of l) (run_before (line + 1) n ls more)
 
 -- one branch more at the end
 abbrev pub with_branch : Branches → ℕ → Condition → Nodes → Branches

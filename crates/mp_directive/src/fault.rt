@@ -1,6 +1,6 @@
 // Why a file has no tree.
 
-use mp_base::MacroKind;
+use mp_base::{MacroKind, NoMemory};
 use std::alloc::AllocError;
 use thiserror::Error;
 
@@ -30,5 +30,27 @@ impl From<AllocError> for LineFault {
 
     fn from(_: AllocError) -> Self {
         LineFault::NoMemory
+    }
+}
+
+impl From<NoMemory> for LineFault {
+    ghost use Rattle.std.specs.Prelude.{◌≡◌};
+    ghost use Rattle.mp_directive.specs.declared.fault.LineFault.TheVariants.{NoMemory};
+
+    ghost from_gives = { λ _ e. e ≡ NoMemory };
+
+    fn from(_: NoMemory) -> Self {
+        LineFault::NoMemory
+    }
+}
+
+impl From<NoMemory> for TreeFault {
+    ghost use Rattle.std.specs.Prelude.{◌≡◌};
+    ghost use Rattle.mp_directive.specs.declared.fault.TreeFault.TheVariants.{NoMemory};
+
+    ghost from_gives = { λ _ e. e ≡ NoMemory };
+
+    fn from(_: NoMemory) -> Self {
+        TreeFault::NoMemory
     }
 }

@@ -1,20 +1,20 @@
 // How lines stand in groups.
-ghost use Rattle.std.specs.Prelude.{◌≡◌, ◌≤◌, ◌+◌, length, Err, IfOk, OnOk, reverse, map};
+ghost use Rattle.std.specs.Prelude.{◌≡◌, ◌≤◌, ◌+◌, length, false, Err, IfOk};
 ghost use Rattle.mp_directive.specs.Lines.{lines};
-ghost use Rattle.mp_directive.specs.Tree.{nodes_weight, with_branch, Branches};
+ghost use Rattle.mp_directive.specs.Tree.{nodes_weight, with_branch, joined, is_alone, Branches};
 ghost use Rattle.mp_directive.specs.Tree as t;
-ghost use Rattle.mp_directive.specs.Groups.{nothing_read, is_otherwise, further, choice_ended, loop_ended, after_line, opener, whole, groups};
+ghost use Rattle.mp_directive.specs.Groups.{AreAlone, nothing_read, is_otherwise, further, choice_ended, loop_ended, after_line, opener, whole, groups};
 ghost use Rattle.mp_directive.specs.Directives.{If, For};
-ghost use Rattle.mp_directive.specs.Groups as g;
-ghost use Rattle.mp_directive.specs.Shown.{condition_of, shown, node_of, nodes_of, branch_of, branches_of, group_of};
+ghost use Rattle.mp_directive.specs.Shown.{condition_of, shown, node_before, nodes_of, branch_of, branches_of, group_of};
+ghost use Rattle.mp_directive.specs.Structure.{GivesMeant};
 ghost use Rattle.mp_directive.specs.Gives.{reading_of, Gives, GivesPlaced, Placed};
 
-use crate::content::{Condition, Content, Statement, content_of};
+use crate::content::{Condition, Content, content_of};
 use crate::fault::{LineFault, TreeFault};
 use crate::scan::first_line;
 use crate::tree::{Branch, Head, Node};
-use mp_base::MacroKind;
-use sqlite_items::Items;
+use mp_base::{MacroKind, NoMemory};
+use sqlite_items::{Boxed, Items};
 use std::alloc::Global;
 
 // How many groups may be open.
@@ -57,8 +57,8 @@ impl<'t> Reader<'t> {
     }
 
     // One node more.
-    fn with(self, node: Node<'t>) -> Result<Reader<'t>, LineFault>
-        ensures { Gives reading_of result (Ok (g.with (reading_of self.entry) (node_of node.entry))) }
+    fn with(self, node: Node<'t>) -> Result<Reader<'t>, NoMemory>
+        ensures { IfOk result (λ r. reading_of r ≡ record { groups = (reading_of self.entry).groups; nodes = joined (reading_of self.entry).nodes (node_before node.entry t.Done) }) }
     {
         let Reader {
             alloc,
@@ -203,6 +203,7 @@ impl<'t> Reader<'t> {
         };
         let body = nodes;
         let mut nodes = outer;
+        let head = Boxed::new(alloc, head)?;
         nodes.push(Node::Loop { head, body })?;
         Ok(Reader {
             alloc,
@@ -211,13 +212,15 @@ impl<'t> Reader<'t> {
         })
     }
 
-    // What is read after a line more.
+    // What is read after a line more, which is none by itself.
+    #[tactic(auto, using(crate::proofs::Joined::lasts))]
     fn after(self, line: u32, content: Content<'t>) -> Result<Reader<'t>, LineFault>
+        requires { is_alone (shown content) ≡ false }
         ensures { Gives reading_of result (after_line line (shown content.entry) (reading_of self.entry)) }
     {
         match content {
-            Content::Alone(statement) => self.with(Node::Simple { line, statement }),
-            Content::Include(expr) => self.with(Node::Included { line, expr }),
+            Content::Alone(_) => Ok(self),
+            Content::Include(expr) => Ok(self.with(Node::Included { line, expr })?),
             Content::If(condition) => self.choice_opened(line, condition),
             Content::Further(condition) => self.further(line, condition),
             Content::EndIf => self.choice_ended(),
@@ -303,10 +306,48 @@ fn placed<'t>(answer: Result<Reader<'t>, LineFault>, line: u32) -> Result<Reader
     }
 }
 
+// Whether the line stands by itself.
+fn is_alone(content: &Content) -> bool
+    ensures { result ≡ is_alone (shown content.now) }
+{
+    match content {
+        Content::Alone(_) => true,
+        _ => false,
+    }
+}
+
+// How many lines stand by themselves at the front, and what follows them.
+fn run_length<'t>(text: &'t [u8]) -> (u32, &'t [u8])
+    requires { length text.now ≤ 8388608 }
+    ensures alone { AreAlone (lines text.now) result.0 (lines result.1.now) }
+    ensures fewer { result.0 + length result.1.now ≤ length text.now }
+{
+    let (_, mut rest) = text.split_at(0);
+    let mut count: u32 = 0;
+    'lines: while !rest.is_empty() {
+        let (first, more) = first_line(rest);
+        if !is_alone(&content_of(first)) {
+            return (count, rest);
+        }
+        rest = more;
+        count += 1;
+    }
+    (count, rest)
+}
+
 /// The tree of a file's lines, or the first line that is at fault: BadDirective, Unbalanced or NestDeep. A missing end
 /// is placed at the opener of the outermost open group and comes after all lines (Dynare manual, "Macro processing
 /// language"; at most 100 groups are open, which is modpath's own).
 pub fn tree_of<'t>(alloc: Global, text: &'t [u8]) -> Result<Items<Node<'t>>, TreeFault>
+    requires { length text.now ≤ 8388608 }
+    ensures by_grammar { GivesMeant text.now result }
+    ensures tree { GivesPlaced nodes_of result (groups text.now) }
+    ensures few { IfOk result (λ nodes. nodes_weight (nodes_of nodes) ≤ length text.now) }
+{
+    read_lines(alloc, text)
+}
+
+fn read_lines<'t>(alloc: Global, text: &'t [u8]) -> Result<Items<Node<'t>>, TreeFault>
     requires { length text.now ≤ 8388608 }
     ensures tree { GivesPlaced nodes_of result (groups text.now) }
     ensures few { IfOk result (λ nodes. nodes_weight (nodes_of nodes) ≤ length text.now) }
@@ -316,7 +357,20 @@ pub fn tree_of<'t>(alloc: Global, text: &'t [u8]) -> Result<Items<Node<'t>>, Tre
     let mut line: u32 = 1;
     'lines: while !rest.is_empty() {
         let (first, more) = first_line(rest);
-        reader = placed(reader.after(line, content_of(first)), line)?;
+        let content = content_of(first);
+        if is_alone(&content) {
+            let (further, after) = run_length(more);
+            let end = line + 1 + further;
+            reader = reader.with(Node::Run {
+                first: line,
+                end,
+                text: rest,
+            })?;
+            rest = after;
+            line = end;
+            continue;
+        }
+        reader = placed(reader.after(line, content), line)?;
         rest = more;
         line += 1;
     }

@@ -156,8 +156,8 @@ fn line_length(text: &[u8]) -> usize
     text.len()
 }
 
-// The first line, and what stands after its newline.
-pub(crate) fn first_line(text: &[u8]) -> (&[u8], &[u8])
+/// The first line, and what stands after its newline.
+pub fn first_line(text: &[u8]) -> (&[u8], &[u8])
     requires { 0 < length text.now }
     ensures value { lines text.now ≡ result.0.now ∷ lines result.1.now }
     ensures fewer { length result.1.now < length text.now }

@@ -3,8 +3,8 @@ ghost use Rattle.std.specs.Prelude.{◌≡◌};
 ghost use Rattle.mp_directive.specs.Tree as t;
 ghost use Rattle.mp_directive.specs.Shown.{condition_of, nodes_of, branch_of};
 
-use crate::content::{Condition, Statement};
-use sqlite_items::Items;
+use crate::content::Condition;
+use sqlite_items::{Boxed, Items};
 
 /// The line that opens a loop: a name, and the expression of the array.
 #[derive(Clone, Copy, Debug)]
@@ -14,13 +14,15 @@ pub struct Head<'t> {
     pub array: &'t [u8],
 }
 
-/// A line by itself, an include, a choice of branches, or a body for each element of an array; lines are numbered from 1.
+/// Lines by themselves one after the other, an include, a choice of branches, or a body for each element of an array;
+/// lines are numbered from 1. A run's text goes on to the end of the file; its lines are those before `end`.
 #[cycle(tree)]
 #[derive(Drop)]
 pub enum Node<'t> {
-    Simple {
-        line: u32,
-        statement: Statement<'t>,
+    Run {
+        first: u32,
+        end: u32,
+        text: &'t [u8],
     },
     Included {
         line: u32,
@@ -30,7 +32,7 @@ pub enum Node<'t> {
         branches: Items<Branch<'t>>,
     },
     Loop {
-        head: Head<'t>,
+        head: Boxed<Head<'t>>,
         body: Items<Node<'t>>,
     },
 }

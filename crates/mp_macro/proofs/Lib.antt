@@ -1,5 +1,6 @@
-pub mod Values
+pub mod Text
 pub mod Pieces
 pub mod Steps
 pub mod Parts
 pub mod Named
+pub mod Runs

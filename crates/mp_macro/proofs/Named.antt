@@ -1,10 +1,11 @@
 -- A name with a new value.
 use Rattle.std.proofs.Common.{◌≡◌, ℕ, ◌+◌, ◌<◌, List, ◌∷◌, drop, length, get_or, Option, Some, sym, ap, ◌∙◌}
 use Rattle.std.proofs.lemmas.List.{drop_more}
-use Rattle.mp_mexpr.specs.Environments.{Environment, value_in, Has}
-use Rattle.mp_mexpr.specs.declared.value.Value.{Value}
-use Rattle.mp_mexpr.specs.declared.defines.Define.{Define}
-use Rattle.mp_macro.specs.Values.{Names, with_name}
+use Rattle.mp_mvalue.specs.Environments.{Environment, value_in, Has}
+use Rattle.mp_mvalue.specs.declared.value.Value.{Value}
+use Rattle.mp_mvalue.specs.declared.defines.Define.{Define}
+use Rattle.mp_mvalue.specs.Environments.{Names}
+use Rattle.mp_macro.specs.States.{with_name}
 use Rattle.mp_macro.specs.Expansion.{defined}
 
 pub named-is : (old new : Environment) (name : List ℕ) (v : Option Value) → Has old new name v → value_in new ≡ with_name (value_in old) name v

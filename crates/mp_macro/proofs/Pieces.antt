@@ -3,8 +3,8 @@ use Rattle.std.proofs.Common.{◌≡◌, ℕ, zero, suc, ◌+◌, List, [], ◌�
 use Rattle.std.proofs.lemmas.Grind.{common_steps}
 use Rattle.mp_base.specs.declared.kinds.MacroKind.TheVariants as k
 use Rattle.mp_directive.specs.Results.{◌>>=◌}
-use Rattle.mp_mexpr.specs.declared.fault.MacroFault.{MacroFault}
-use Rattle.mp_mexpr.specs.declared.fault.MacroFault.TheVariants as f
+use Rattle.mp_mvalue.specs.declared.fault.MacroFault.{MacroFault}
+use Rattle.mp_mvalue.specs.declared.fault.MacroFault.TheVariants as f
 use Rattle.mp_macro.specs.Plain.{Piece, Verbatim, Expression, mark_at, end_at, expression_then, pieces_by, pieces_from, pieces}
 use Rattle.mp_macro.specs.Says.{Makes}
 use Rattle.mp_macro.specs.declared.state.State as c

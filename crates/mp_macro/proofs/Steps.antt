@@ -3,10 +3,10 @@ use Rattle.std.proofs.Common.{◌≡◌, ℕ, zero, suc, ◌+◌, ◌-◌, ◌�
 use Rattle.mp_base.specs.declared.kinds.MacroKind.{MacroKind}
 use Rattle.mp_base.specs.declared.kinds.MacroKind.TheVariants as k
 use Rattle.mp_outside.specs.Outside.{Outside, Listing, Later, lookup}
-use Rattle.mp_mexpr.specs.Gives as x
-use Rattle.mp_mexpr.specs.declared.value.Value.{Value}
-use Rattle.mp_mexpr.specs.declared.fault.MacroFault.{MacroFault}
-use Rattle.mp_mexpr.specs.declared.fault.MacroFault.TheVariants as f
+use Rattle.mp_mvalue.specs.Gives as x
+use Rattle.mp_mvalue.specs.declared.value.Value.{Value}
+use Rattle.mp_mvalue.specs.declared.fault.MacroFault.{MacroFault}
+use Rattle.mp_mvalue.specs.declared.fault.MacroFault.TheVariants as f
 use Rattle.mp_directive.specs.Results.{◌>>=◌}
 use Rattle.mp_directive.specs.Directives.{Condition}
 use Rattle.mp_directive.specs.Tree as t'
@@ -14,7 +14,7 @@ use Rattle.mp_directive.specs.Shown.{nodes_of}
 use Rattle.mp_directive.specs.Groups.{groups}
 use Rattle.mp_macro.specs.States.{State, Outcome, counted, named, holds, elements, turn_begun}
 use Rattle.mp_macro.specs.Expansion.{Refusal, Macro, Including, Step, at, turns, restored, after_node, after_nodes, after_branches, tree, after_file, contents, include}
-use Rattle.mp_macro.specs.Says.{state_of, Makes, Placed, Refuses, Gives, Told, Says}
+use Rattle.mp_macro.specs.Says.{state_of, Makes, GivesPart, Placed, Refuses, Gives, Told, Says}
 use Rattle.mp_macro.specs.declared.fault.Stop.{Stop}
 use Rattle.mp_macro.specs.declared.fault.Stop.TheVariants as s
 use Rattle.mp_macro.specs.declared.state.State as c
@@ -167,3 +167,10 @@ module _ (room : ℕ) (file : List ℕ) (line : ℕ) (name array : List ℕ) (bo
   pub loop-ends : (a : Outside) (vs start rest : List Value) (z st new : State) → elements z.names array ≡ Ok vs → start ≡ vs → length rest ≡ 0 → ((l : Listing) → a.listing ≡ Some l → turned l rest st ≡ turned l start z) → new ≡ named name (z.names name) st → Told a (looped z) (Ok new)
   loop-ends a vs start [] z st new elems same none told is = λ l t. loop-rest l vs start [] z st elems same (told l t) ∙ ap (λ x. Ok x) (sym is)
   loop-ends a vs start (x ∷ rest) z st new elems same none told is = cc
+
+-- a part of what a line gives
+pub part-refused : {X Y : Type 0} (view : Y → X) (answer : Result Y MacroFault) (meant : Result X MacroKind) → GivesPart view answer meant → (kind : MacroKind) → answer ≡ Err (f.Refused kind) → meant ≡ Err kind
+part-refused view answer meant h kind e = subst (λ a. GivesPart view a meant) e h
+
+pub part-ok : {X Y : Type 0} (view : Y → X) (answer : Result Y MacroFault) (meant : Result X MacroKind) (y : Y) → GivesPart view answer meant → answer ≡ Ok y → meant ≡ Ok (view y)
+part-ok view answer meant y h e = subst (λ a. GivesPart view a meant) e h

@@ -1,16 +1,16 @@
 -- The expansion of a file (Dynare manual, "Macro processing language"; scope, order of refusals and limits are modpath's
 -- own).
-use Rattle.std.specs.Prelude.{ℕ, zero, suc, List, [], ◌∷◌, length, nat_le, if◌then◌else◌, Option, Some, None, Result, Ok, Err}
+use Rattle.std.specs.Prelude.{ℕ, zero, suc, List, [], ◌∷◌, length, take, nat_le, if◌then◌else◌, Option, Some, None, Result, Ok, Err}
 use Rattle.mp_base.specs.declared.kinds.MacroKind.{MacroKind}
 use Rattle.mp_base.specs.declared.kinds.MacroKind.TheVariants.{FileLong, IncludeDeep}
 use Rattle.mp_outside.specs.Outside.{Listing, lookup}
-use Rattle.mp_mexpr.specs.declared.value.Value.{Value}
-use Rattle.mp_mexpr.specs.declared.defines.Define.{Define}
+use Rattle.mp_mvalue.specs.declared.value.Value.{Value}
+use Rattle.mp_mvalue.specs.declared.defines.Define.{Define}
 use Rattle.mp_directive.specs.Results.{◌>>=◌}
 use Rattle.mp_directive.specs.Tree.{Node, Simple, Included, Choice, Loop, Nodes, Done, Then, Branches, NoBranch, Branch}
 use Rattle.mp_directive.specs.Groups.{Fault, groups}
-use Rattle.mp_macro.specs.Values.{Names, with_name}
-use Rattle.mp_macro.specs.States.{State, named, counted, after_statement, holds, elements, turn_begun, file_name}
+use Rattle.mp_mvalue.specs.Environments.{Names}
+use Rattle.mp_macro.specs.States.{State, with_name, named, counted, after_statement, holds, elements, turn_begun, file_name}
 
 -- why there is no text: a line of a file is refused, or a file is absent
 pub data Refusal : Type 0 where
@@ -88,11 +88,12 @@ defined names (d ∷ ds) = defined (with_name names d.name (Some d.value)) ds
 abbrev pub start : List Define → State
 start defines = record { names = defined (λ name. None) defines; turns = 0; text = [] }
 
--- what the main file makes of a state; at most 32 files are open
-abbrev pub after_main : Listing → List ℕ → State → Step
-after_main l name s =
-    contents (lookup l name) name name 0 >>= λ bytes. after_file (include l 31) name bytes s
+-- what the main file of this name, which is told as it is shown, makes of a state; at most 32 files are open
+abbrev pub after_main : Listing → (name shown : List ℕ) → State → Step
+after_main l name shown s =
+    contents (lookup l name) shown shown 0 >>= λ bytes. after_file (include l 31) shown bytes s
 
--- the text of a file in which all directives are carried out, or the first refusal
+-- the text of a file in which all directives are carried out, or the first refusal, which tells 128 bytes of a longer
+-- name
 abbrev pub expands : Listing → List ℕ → List Define → Result (List ℕ) Refusal
-expands l name defines = after_main l name (start defines) >>= λ s. Ok s.text
+expands l name defines = after_main l name (take 128 name) (start defines) >>= λ s. Ok s.text

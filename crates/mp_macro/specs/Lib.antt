@@ -1,4 +1,3 @@
-pub mod Values
 pub mod Plain
 pub mod States
 pub mod Expansion

@@ -2,9 +2,9 @@
 use Rattle.std.specs.Prelude.{◌≡◌, ℕ, List, Option, Some, IfSome, Result, Ok, Err}
 use Rattle.mp_base.specs.declared.kinds.MacroKind.{MacroKind}
 use Rattle.mp_outside.specs.Outside.{Outside, Listing, Rose}
-use Rattle.mp_mexpr.specs.Environments.{value_in}
-use Rattle.mp_mexpr.specs.declared.fault.MacroFault.{MacroFault}
-use Rattle.mp_mexpr.specs.declared.fault.MacroFault.TheVariants as m
+use Rattle.mp_mvalue.specs.Environments.{value_in}
+use Rattle.mp_mvalue.specs.declared.fault.MacroFault.{MacroFault}
+use Rattle.mp_mvalue.specs.declared.fault.MacroFault.TheVariants as m
 use Rattle.mp_macro.specs.States as s
 use Rattle.mp_macro.specs.Expansion as e
 use Rattle.mp_macro.specs.declared.fault.ExpandFault.{ExpandFault}
@@ -53,6 +53,14 @@ Gives view (Err (t.Absent name)) meant = ⊥
 Gives view (Err (t.ReadFault count)) meant = ⊥
 Gives view (Err t.NoMemory) meant = Unit {0}
 
+-- lines of a file were carried out, or the expansion stops, unless there was no memory
+abbrev pub SaysHere : State → Result (Unit {0}) Stop → Result s.State e.Refusal → Type 0
+SaysHere new (Ok u) meant = meant ≡ Ok (state_of new)
+SaysHere new (Err (t.Macro kind file line)) meant = meant ≡ Err (e.Macro kind file line)
+SaysHere new (Err (t.Absent name)) meant = ⊥
+SaysHere new (Err (t.ReadFault count)) meant = ⊥
+SaysHere new (Err t.NoMemory) meant = Unit {0}
+
 -- in each listing that is told this is given
 abbrev pub Told : {X : Type 0} → Outside → (Listing → X) → X → Type 0
 Told before gives x = (l : Listing) → before.listing ≡ Some l → gives l ≡ x
@@ -79,3 +87,9 @@ abbrev pub ShowsCause : Outside → Outside → ExpandFault → Type 0
 ShowsCause before now (x.Absent name) = Rose before.absents now.absents
 ShowsCause before now (x.ReadFault count) = Rose before.faults now.faults × (count ≡ now.faults)
 ShowsCause before now _ = Unit {0}
+
+-- what was returned, seen by view, is what is meant for an expression, unless there was no memory
+abbrev pub GivesPart : {X Y : Type 0} → (Y → X) → Result Y MacroFault → Result X MacroKind → Type 0
+GivesPart view (Ok y) meant = meant ≡ Ok (view y)
+GivesPart view (Err (m.Refused kind)) meant = meant ≡ Err kind
+GivesPart view (Err m.NoMemory) meant = Unit {0}

@@ -1,15 +1,25 @@
 -- What one line does.
-use Rattle.std.specs.Prelude.{ℕ, ◌+◌, List, [], ◌∷◌, ◌++◌, length, Bool, true, not, ◌&&◌, nat_lt, nat_le, if◌then◌else◌, Option, Some, None, Result, Ok, Err, is_some, pos}
+use Rattle.std.specs.Prelude.{ℕ, ◌+◌, List, [], ◌∷◌, ◌++◌, length, Bool, true, not, ◌&&◌, nat_lt, nat_le, bytes_eq, if◌then◌else◌, Option, Some, None, Result, Ok, Err, is_some, pos}
 use Rattle.std.specs.Str.{is_utf8}
 use Rattle.mp_base.specs.declared.kinds.MacroKind.{MacroKind}
 use Rattle.mp_base.specs.declared.kinds.MacroKind.TheVariants.{BadExpression, WrongKind, UserError, FileName, TurnsLimit, TextLimit}
-use Rattle.mp_mexpr.specs.declared.value.Value.{Value, Whole, Text}
-use Rattle.mp_mexpr.specs.Values.{printed}
+use Rattle.mp_mvalue.specs.declared.value.Value.{Value, Whole, Text}
+use Rattle.mp_mvalue.specs.Values.{printed}
+use Rattle.mp_mvalue.specs.Environments.{Names}
+use Rattle.mp_mvalue.specs.Made.{Valued}
+use Rattle.mp_mexpr.specs.Grammar.{meaning}
 use Rattle.mp_mexpr.specs.Meaning.{truth_of, elements_of}
 use Rattle.mp_directive.specs.Results.{◌>>=◌}
-use Rattle.mp_directive.specs.Directives.{Condition, Holds, Defined, Undefined, Otherwise, Statement, Plain, Define, Echo, Error}
+use Rattle.mp_directive.specs.Directives.{Condition, Holds, Defined, Undefined, Otherwise, Statement, Plain, Define, Echo, Error, Content, Alone}
 use Rattle.mp_macro.specs.Plain.{Piece, Verbatim, Expression, Unclosed, pieces}
-use Rattle.mp_macro.specs.Values.{Names, with_name, value}
+
+-- the same names but for one
+abbrev pub with_name : Names → List ℕ → Option Value → Names
+with_name names name value = λ other. if bytes_eq name other then value else names other
+
+-- of the bytes of an expression
+unfoldable pub value : Names → List ℕ → Valued
+value names text = meaning names text
 
 -- what an expansion has come to: the values of names, how many loop turns and includes were made, and the text written
 pub record State : Type 0 where
@@ -69,6 +79,11 @@ after_statement (Plain line) s = after_pieces (pieces line) s
 after_statement (Define name expr) s = defined_value s.names expr >>= λ v. Ok (named name (Some v) s)
 after_statement (Echo expr) s = echoed s.names expr >>= λ u. Ok s
 after_statement (Error expr) s = user_error s.names expr >>= λ u. Ok s
+
+-- what a line by itself does; another does nothing
+abbrev pub after_alone : Content → State → Outcome
+after_alone (Alone s) x = after_statement s x
+after_alone _ x = Ok x
 
 -- whether a branch is taken
 abbrev pub holds : Names → Condition → Result Bool MacroKind

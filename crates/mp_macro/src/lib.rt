@@ -3,7 +3,6 @@
 
 pub mod expansion;
 pub mod fault;
-pub mod laws;
 pub mod plain;
 pub mod reading;
 pub mod state;
@@ -11,7 +10,3 @@ pub mod statement;
 
 pub use expansion::expand;
 pub use fault::ExpandFault;
-pub use laws::value_law;
-
-#[cfg(test)]
-mod tests;

@@ -8,7 +8,7 @@ use crate::state::State;
 use crate::statement::{evaluate, refused};
 use mp_base::MacroKind;
 use mp_directive::{begins_comment, quoted_after};
-use mp_mexpr::{MacroFault, print_value};
+use mp_mvalue::{MacroFault, print_value};
 use std::alloc::Global;
 
 // Whether `@{` begins here, with this byte.

@@ -10,7 +10,7 @@ ghost use Rattle.mp_macro.specs.Says.{Placed, Refuses, Misses, Gives, Says};
 use crate::fault::Stop;
 use mp_base::{Bytes, Label, MacroKind};
 use mp_directive::{Node, TreeFault, tree_of};
-use mp_mexpr::MacroFault;
+use mp_mvalue::MacroFault;
 use mp_outside::{Fetched, Files};
 use sqlite_items::{Boxed, Items};
 use std::alloc::Global;
@@ -57,24 +57,26 @@ pub(crate) fn placed<T>(
     }
 }
 
-// Puts the bytes of a file, which is asked for in this line of this file, into `into`.
+// Puts the bytes of the file of this name, which is asked for in this line of this file, into `into`; a fault tells the
+// name as it is shown.
 pub(crate) fn fetch<F: Files>(
     alloc: Global,
     files: &mut F,
     name: &[u8],
+    shown: &[u8],
     file: &[u8],
     line: u32,
     into: &mut Bytes,
 ) -> Result<(), Stop>
-    requires name { length name.now ≤ 128 }
+    requires shown { length shown.now ≤ 128 }
     requires file { length file.now ≤ 128 }
-    ensures says { Says into.new (F.outside files.old) (F.outside files.new) (λ l. contents (lookup l name.now) name.now file.now line) result }
+    ensures says { Says into.new (F.outside files.old) (F.outside files.new) (λ l. contents (lookup l name.now) shown.now file.now line) result }
     ensures later { Later (F.outside files.old) (F.outside files.new) }
     ensures few { OnOk result (length into.new ≤ 8388608) }
 {
     match files.fetch(name, MOST_BYTES, into) {
         Fetched::Got => Ok(()),
-        Fetched::Absent => Err(absent(alloc, name)),
+        Fetched::Absent => Err(absent(alloc, shown)),
         Fetched::ReadFault => Err(Stop::ReadFault {
             count: files.faults(),
         }),

@@ -2,7 +2,7 @@
 ghost use Rattle.std.specs.Prelude.{length, ◌≤◌};
 
 use mp_base::{Bytes, MacroKind, NoMemory};
-use mp_mexpr::{Env, MacroFault, Value, copy};
+use mp_mvalue::{Env, MacroFault, SharedValue, copy};
 use std::alloc::Global;
 
 // How many bytes the expanded text may have.
@@ -21,8 +21,9 @@ pub struct State {
 }
 
 impl State {
-    ghost use Rattle.std.specs.Prelude.{◌≡◌, ◌≤◌, ◌++◌, ◌∷◌, [], length, Some, OnOk, IfOk};
-    ghost use Rattle.mp_mexpr.specs.Environments.{value_in};
+    ghost use Rattle.std.specs.Prelude.{◌≡◌, ◌≤◌, ◌++◌, ◌∷◌, [], length, Some, option_map, OnOk, IfOk};
+    ghost use Rattle.mp_mvalue.specs.Environments.{value_in};
+    ghost use Rattle.mp_mvalue.specs.Shared.{unshared};
     ghost use Rattle.mp_macro.specs.States.{written, counted, named};
     ghost use Rattle.mp_macro.specs.Says.{state_of, Makes};
 
@@ -78,25 +79,29 @@ impl State {
     }
 
     // The name has this value from now on.
-    pub(crate) fn name(&mut self, name: &[u8], value: Value) -> Result<(), NoMemory>
-        ensures { OnOk result (state_of self.new ≡ named name.now (Some value) (state_of self.old)) }
+    pub(crate) fn name(&mut self, name: &[u8], value: SharedValue) -> Result<(), NoMemory>
+        ensures { OnOk result (state_of self.new ≡ named name.now (Some (unshared value)) (state_of self.old)) }
     {
         self.env.set(name, value)
     }
 
-    // A copy of the name's value.
-    pub(crate) fn value(&self, alloc: Global, name: &[u8]) -> Result<Option<Value>, NoMemory>
-        ensures { IfOk result (λ v. v ≡ (state_of self.now).names name.now) }
+    // The name's value.
+    pub(crate) fn value(&self, name: &[u8]) -> Result<Option<SharedValue>, NoMemory>
+        ensures { IfOk result (λ v. option_map unshared v ≡ (state_of self.now).names name.now) }
     {
         match self.env.get(name) {
-            Some(value) => Ok(Some(copy(alloc, value)?)),
+            Some(value) => Ok(Some(copy(value)?)),
             None => Ok(None),
         }
     }
 
     // The name has this value again, or none.
-    pub(crate) fn restore(&mut self, name: &[u8], value: Option<Value>) -> Result<(), NoMemory>
-        ensures { OnOk result (state_of self.new ≡ named name.now value (state_of self.old)) }
+    pub(crate) fn restore(
+        &mut self,
+        name: &[u8],
+        value: Option<SharedValue>,
+    ) -> Result<(), NoMemory>
+        ensures { OnOk result (state_of self.new ≡ named name.now (option_map unshared value) (state_of self.old)) }
     {
         match value {
             Some(value) => self.env.set(name, value),

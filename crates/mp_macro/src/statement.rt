@@ -2,20 +2,23 @@
 ghost use Rattle.std.specs.Prelude.{◌≡◌, Err, option_map};
 ghost use Rattle.std.specs.Str.{is_utf8};
 ghost use Rattle.mp_directive.specs.Shown.{condition_of, statement_of};
-ghost use Rattle.mp_mexpr.specs.Environments.{value_in};
-ghost use Rattle.mp_mexpr.specs.Gives.{Gives};
-ghost use Rattle.mp_mexpr.specs.Meaning.{truth_of, elements_of};
-ghost use Rattle.mp_macro.specs.Values.{value};
-ghost use Rattle.mp_macro.specs.States.{text_of, defined_value, echoed, user_error, after_statement, holds, elements, turn_begun, is_file_name, file_name};
+ghost use Rattle.mp_mvalue.specs.Environments.{value_in};
+ghost use Rattle.mp_mvalue.specs.Gives.{Gives, GivesValue};
+ghost use Rattle.mp_mvalue.specs.Shared.{unshared};
+ghost use Rattle.mp_mexpr.specs.Meaning.{elements_of};
+ghost use Rattle.mp_macro.specs.States.{value, text_of, defined_value, echoed, user_error, after_statement, after_alone, holds, elements, turn_begun, is_file_name, file_name};
+ghost use Rattle.mp_directive.specs.Directives.{content_of};
 ghost use Rattle.mp_directive.specs.Directives as d;
-ghost use Rattle.mp_macro.specs.Says.{state_of, Makes};
+ghost use Rattle.mp_macro.specs.Says.{state_of, Makes, GivesPart};
 
 use crate::plain::write_line;
 use crate::state::State;
 use mp_base::{Bytes, MacroKind};
-use mp_directive::{Condition, Statement};
-use mp_mexpr::{Env, MacroFault, Value, Values, copy, eval};
+use mp_directive::{Condition, Content, Statement, content_of};
+use mp_mexpr::{eval, truth_of};
+use mp_mvalue::{Array, Env, MacroFault, SharedValue, copy};
 use std::alloc::Global;
+use std::rc::Rc;
 
 pub(crate) fn refused<T>(kind: MacroKind) -> Result<T, MacroFault>
     ensures { result ≡ Err (MacroFault.Refused kind) }
@@ -24,50 +27,40 @@ pub(crate) fn refused<T>(kind: MacroKind) -> Result<T, MacroFault>
 }
 
 // The value of an expression.
-pub(crate) fn evaluate(alloc: Global, expr: &[u8], env: &Env) -> Result<Value, MacroFault>
-    ensures { Gives result (value (value_in env.now) expr.now) }
+#[tactic(auto, unfolding(crate::specs::States::value))]
+pub(crate) fn evaluate(alloc: Global, expr: &[u8], env: &Env) -> Result<SharedValue, MacroFault>
+    ensures { GivesValue result (value (value_in env.now) expr.now) }
 {
     eval(alloc, expr, env)
 }
 
-// The bytes of a text.
-fn text_of(value: Value) -> Result<Bytes, MacroFault>
-    ensures { Gives result (text_of value) }
+// A text.
+fn text_of(value: SharedValue) -> Result<Rc<Bytes, Global>, MacroFault>
+    ensures { GivesPart (λ t. t.value) result (text_of (unshared value)) }
 {
     match value {
-        Value::Text(text) => Ok(text),
+        SharedValue::Text(text) => Ok(text),
         _ => refused(MacroKind::WrongKind),
     }
 }
 
-// A truth value, or a number, of which 0 is false.
-fn truth_of(value: &Value) -> Result<bool, MacroFault>
-    ensures { Gives result (truth_of value.now) }
+// An array.
+fn elements_of(value: SharedValue) -> Result<Rc<Array, Global>, MacroFault>
+    ensures { GivesPart (λ a. a.value) result (elements_of (unshared value)) }
 {
     match value {
-        Value::Truth(b) => Ok(*b),
-        Value::Whole(n) => Ok(*n != 0),
-        _ => refused(MacroKind::WrongKind),
-    }
-}
-
-// The elements of an array.
-fn elements_of(value: Value) -> Result<Values, MacroFault>
-    ensures { Gives result (elements_of value) }
-{
-    match value {
-        Value::List(elements) => Ok(elements),
+        SharedValue::List(elements) => Ok(elements),
         _ => refused(MacroKind::WrongKind),
     }
 }
 
 // The value that `@#define` gives: without an expression the number 1.
-fn defined_value(alloc: Global, expr: Option<&[u8]>, env: &Env) -> Result<Value, MacroFault>
-    ensures { Gives result (defined_value (value_in env.now) (option_map (λ e. e.now) expr.entry)) }
+fn defined_value(alloc: Global, expr: Option<&[u8]>, env: &Env) -> Result<SharedValue, MacroFault>
+    ensures { GivesValue result (defined_value (value_in env.now) (option_map (λ e. e.now) expr.entry)) }
 {
     match expr {
         Some(expr) => evaluate(alloc, expr, env),
-        None => Ok(Value::Whole(1)),
+        None => Ok(SharedValue::Whole(1)),
     }
 }
 
@@ -96,6 +89,16 @@ fn error(alloc: Global, expr: &[u8], env: &Env) -> Result<(), MacroFault>
 {
     let _text = text_of(evaluate(alloc, expr, env)?)?;
     refused(MacroKind::UserError)
+}
+
+// What a line by itself does.
+pub(crate) fn carry_line(alloc: Global, line: &[u8], state: &mut State) -> Result<(), MacroFault>
+    ensures { Makes state.new result (after_alone (content_of line.now) (state_of state.old)) }
+{
+    match content_of(line) {
+        Content::Alone(statement) => carry_out(alloc, &statement, state),
+        _ => Ok(()),
+    }
 }
 
 // What one line does by itself.
@@ -127,8 +130,12 @@ pub(crate) fn holds(alloc: Global, condition: &Condition, env: &Env) -> Result<b
 }
 
 // The elements over which a loop goes.
-pub(crate) fn elements(alloc: Global, expr: &[u8], env: &Env) -> Result<Values, MacroFault>
-    ensures { Gives result (elements (value_in env.now) expr.now) }
+pub(crate) fn elements(
+    alloc: Global,
+    expr: &[u8],
+    env: &Env,
+) -> Result<Rc<Array, Global>, MacroFault>
+    ensures { GivesPart (λ a. a.value) result (elements (value_in env.now) expr.now) }
 {
     elements_of(evaluate(alloc, expr, env)?)
 }
@@ -153,11 +160,15 @@ fn is_file_name(name: &[u8]) -> bool
 }
 
 // The name of an included file.
-pub(crate) fn file_name(alloc: Global, expr: &[u8], env: &Env) -> Result<Bytes, MacroFault>
-    ensures { Gives result (file_name (value_in env.now) expr.now) }
+pub(crate) fn file_name(
+    alloc: Global,
+    expr: &[u8],
+    env: &Env,
+) -> Result<Rc<Bytes, Global>, MacroFault>
+    ensures { GivesPart (λ t. t.value) result (file_name (value_in env.now) expr.now) }
 {
     let name = text_of(evaluate(alloc, expr, env)?)?;
-    if is_file_name(name.as_slice()) {
+    if is_file_name(name.as_ref().as_slice()) {
         return Ok(name);
     }
     refused(MacroKind::FileName)
@@ -165,14 +176,13 @@ pub(crate) fn file_name(alloc: Global, expr: &[u8], env: &Env) -> Result<Bytes, 
 
 // A turn of a loop begins.
 pub(crate) fn begin_turn(
-    alloc: Global,
     name: &[u8],
-    element: &Value,
+    element: &SharedValue,
     state: &mut State,
 ) -> Result<(), MacroFault>
-    ensures { Makes state.new result (turn_begun name.now element.now (state_of state.old)) }
+    ensures { Makes state.new result (turn_begun name.now (unshared element.now) (state_of state.old)) }
 {
     state.count()?;
-    state.name(name, copy(alloc, element)?)?;
+    state.name(name, copy(element)?)?;
     Ok(())
 }

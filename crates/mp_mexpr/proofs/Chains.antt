@@ -5,7 +5,7 @@ use Rattle.mp_mexpr.specs.declared.operator.Operator.{Operator}
 use Rattle.mp_mexpr.specs.declared.token.Mark.TheVariants as m
 use Rattle.mp_mexpr.specs.Syntax.{Expr, Apply}
 use Rattle.mp_mexpr.specs.Tokens.{Tok, Binary}
-use Rattle.mp_mexpr.specs.Grammar.{Reader, ◌>>=◌, go_on, past, operator_at, level_of, most, repeated, applied, level_at, inside_at, syntax}
+use Rattle.mp_mexpr.specs.Grammar.{Reader, ◌>>=◌, go_on, past, operator_at, level_of, most, repeated, applied, level_at, inside_at}
 use Rattle.mp_mexpr.proofs.Reading.{repeated-end}
 
 -- no place of an element follows, and no operator that binds tighter than this level
@@ -64,38 +64,38 @@ module _ {B X : Type 0} (begin : List Tok → Option B) (step : X → B → Opti
 
 -- a level, where so many more brackets may be open
 abbrev pub at : ℕ → ℕ → Reader Expr
-at room level ts = level_at syntax (inside_at syntax room) level ts
+at room level ts = level_at (inside_at room) level ts
 
 -- operands of a level, with operators of the level between
 abbrev pub Operands : ℕ → ℕ → List Tok → Expr → List Tok → Type 0
-Operands room level = Chain (operator_at level) (applied syntax (at room level)) (at room level)
+Operands room level = Chain (operator_at level) (applied (at room level)) (at room level)
 
 pub operands-one : (room level : ℕ) (ts : List Tok) (e : Expr) (rest : List Tok) → at room level ts ≡ Some (e, rest) → Operands room level ts e rest
 operands-one room level ts e rest h =
-    chain-one (operator_at level) (applied syntax (at room level)) (at room level) ts e rest h
+    chain-one (operator_at level) (applied (at room level)) (at room level) ts e rest h
 
 pub operands-more : (room level : ℕ) (operator : Operator) (ts us rest : List Tok) (e f : Expr) → level_of operator ≡ level → Operands room level ts e (Binary operator ∷ us) → at room level us ≡ Some (f, rest) → length rest < length us → Operands room level ts (Apply operator e f) rest
 operands-more room level operator ts us rest e f is c h lt =
-    chain-more (operator_at level) (applied syntax (at room level)) (at room level) ts e (Binary operator ∷ us) (operator, us) (Apply operator e f) rest c (operator_at-is level operator us is) (ap (λ o. o >>= λ right. Some (Apply operator e right.0, right.1)) h) (omega arith)
+    chain-more (operator_at level) (applied (at room level)) (at room level) ts e (Binary operator ∷ us) (operator, us) (Apply operator e f) rest c (operator_at-is level operator us is) (ap (λ o. o >>= λ right. Some (Apply operator e right.0, right.1)) h) (omega arith)
 
 -- all operands are read where no operator of the level follows
 pub operands-end : (room level : ℕ) (ts : List Tok) (e : Expr) (rest : List Tok) → ((l : List Tok) → most level l ≡ length l) → Operands room level ts e rest → operator_at level rest ≡ None → at room (suc level) ts ≡ Some (e, rest)
 unfolding level_at
 operands-end room level ts e rest long c none =
-    ap (λ o. o >>= λ first. repeated (most level first.1) (operator_at level) (applied syntax (at room level)) first.0 first.1) c.begun
-    ∙ ap (λ n. repeated n (operator_at level) (applied syntax (at room level)) c.first c.mid) (long c.mid)
-    ∙ chain-end (operator_at level) (applied syntax (at room level)) (at room level) ts e rest c none (length c.mid) (omega arith)
+    ap (λ o. o >>= λ first. repeated (most level first.1) (operator_at level) (applied (at room level)) first.0 first.1) c.begun
+    ∙ ap (λ n. repeated n (operator_at level) (applied (at room level)) c.first c.mid) (long c.mid)
+    ∙ chain-end (operator_at level) (applied (at room level)) (at room level) ts e rest c none (length c.mid) (omega arith)
 
 -- one operand, or two, where a level has one operator at most
 pub operand-alone : (room level : ℕ) (ts : List Tok) (e : Expr) (rest : List Tok) → at room level ts ≡ Some (e, rest) → operator_at level rest ≡ None → at room (suc level) ts ≡ Some (e, rest)
 unfolding level_at
 operand-alone room level ts e rest h none =
-    ap (λ o. o >>= λ first. repeated (most level first.1) (operator_at level) (applied syntax (at room level)) first.0 first.1) h
-    ∙ repeated-end (operator_at level) (applied syntax (at room level)) (most level rest) e rest none
+    ap (λ o. o >>= λ first. repeated (most level first.1) (operator_at level) (applied (at room level)) first.0 first.1) h
+    ∙ repeated-end (operator_at level) (applied (at room level)) (most level rest) e rest none
 
 pub operands-two : (room level : ℕ) (operator : Operator) (ts us rest : List Tok) (e f : Expr) → ((l : List Tok) → most level l ≡ 1) → level_of operator ≡ level → at room level ts ≡ Some (e, Binary operator ∷ us) → at room level us ≡ Some (f, rest) → at room (suc level) ts ≡ Some (Apply operator e f, rest)
 unfolding level_at repeated
 operands-two room level operator ts us rest e f one is h k =
-    ap (λ o. o >>= λ first. repeated (most level first.1) (operator_at level) (applied syntax (at room level)) first.0 first.1) h
-    ∙ ap (λ n. repeated n (operator_at level) (applied syntax (at room level)) e (Binary operator ∷ us)) (one (Binary operator ∷ us))
-    ∙ turn (operator_at level) (applied syntax (at room level)) 0 e (Binary operator ∷ us) (operator, us) (Apply operator e f, rest) (operator_at-is level operator us is) (ap (λ o. o >>= λ right. Some (Apply operator e right.0, right.1)) k)
+    ap (λ o. o >>= λ first. repeated (most level first.1) (operator_at level) (applied (at room level)) first.0 first.1) h
+    ∙ ap (λ n. repeated n (operator_at level) (applied (at room level)) e (Binary operator ∷ us)) (one (Binary operator ∷ us))
+    ∙ turn (operator_at level) (applied (at room level)) 0 e (Binary operator ∷ us) (operator, us) (Apply operator e f, rest) (operator_at-is level operator us is) (ap (λ o. o >>= λ right. Some (Apply operator e right.0, right.1)) k)

@@ -7,7 +7,7 @@ use Rattle.mp_mexpr.specs.declared.token.Mark.{Mark}
 use Rattle.mp_mexpr.specs.declared.token.Mark.TheVariants as m
 use Rattle.mp_mexpr.specs.Syntax.{Expr, Exprs, Array, Negative, Not, Apply, Index, Empty, With}
 use Rattle.mp_mexpr.specs.Tokens.{Tok, Digits, Quoted, Name, Binary, Single}
-use Rattle.mp_mexpr.specs.Grammar.{Reader, ◌>>=◌, go_on, is_mark, past, past_minus, operator_at, level_of, most, repeated, applied, extended, indexed, place_at, more_elements_at, array_at, paren_at, primary_by, primary_at, index_at, unary_at, level_at, inside_at, syntax}
+use Rattle.mp_mexpr.specs.Grammar.{Reader, ◌>>=◌, go_on, is_mark, past, past_minus, operator_at, level_of, most, repeated, applied, extended, indexed, place_at, more_elements_at, array_at, paren_at, primary_by, primary_at, index_at, unary_at, level_at, inside_at}
 use Rattle.mp_mexpr.specs.Readings as g
 use Rattle.mp_mexpr.specs.Readings.{Compares, Adds, OrReads, AndReads, ComparisonReads, RangeReads, SumReads, ProductReads, UnaryReads, IndexReads, PrimaryReads, ElementsRead}
 
@@ -84,29 +84,29 @@ once_found {B} P begin step n x ts y one none some e =
 abbrev pub Sound : {X : Type 0} → Reader X → (List Tok → X → List Tok → Type 0) → Type 0
 Sound {X} read R = (ts : List Tok) (y : X × List Tok) → read ts ≡ Some y → R ts y.0 y.1
 
-module _ (inside : Reader Expr) (level : ℕ) (R S : List Tok → Expr → List Tok → Type 0) (operand : Sound (level_at syntax inside level) R) (one : (ts rest : List Tok) (e : Expr) → R ts e rest → S ts e rest) where
-  operands_found : ((operator : Operator) (ts us rest : List Tok) (e f : Expr) → level_of operator ≡ level → S ts e (Binary operator ∷ us) → R us f rest → S ts (Apply operator e f) rest) → Sound (level_at syntax inside (suc level)) S
+module _ (inside : Reader Expr) (level : ℕ) (R S : List Tok → Expr → List Tok → Type 0) (operand : Sound (level_at inside level) R) (one : (ts rest : List Tok) (e : Expr) → R ts e rest → S ts e rest) where
+  operands_found : ((operator : Operator) (ts us rest : List Tok) (e f : Expr) → level_of operator ≡ level → S ts e (Binary operator ∷ us) → R us f rest → S ts (Apply operator e f) rest) → Sound (level_at inside (suc level)) S
   unfolding level_at
   operands_found more ts y e =
-      let x = bound (level_at syntax inside level ts) _ y e in
-      repeated_found (S ts) (operator_at level) (applied syntax (level_at syntax inside level)) turn (most level x.0.1) x.0.0 x.0.1 y (one ts x.0.1 x.0.0 (operand ts x.0 x.1)) x.2
+      let x = bound (level_at inside level ts) _ y e in
+      repeated_found (S ts) (operator_at level) (applied (level_at inside level)) turn (most level x.0.1) x.0.0 x.0.1 y (one ts x.0.1 x.0.0 (operand ts x.0 x.1)) x.2
     where
-      turn : (left : Expr) (us : List Tok) (b : Operator × List Tok) (z : Expr × List Tok) → S ts left us → operator_at level us ≡ Some b → applied syntax (level_at syntax inside level) left b ≡ Some z → S ts z.0 z.1
+      turn : (left : Expr) (us : List Tok) (b : Operator × List Tok) (z : Expr × List Tok) → S ts left us → operator_at level us ≡ Some b → applied (level_at inside level) left b ≡ Some z → S ts z.0 z.1
       turn left us b z s begun stepped =
           let p = operator_found level us b begun in
-          let r = bound (level_at syntax inside level b.1) _ z stepped in
+          let r = bound (level_at inside level b.1) _ z stepped in
           carried (S ts) (Apply b.0 left r.0.0, r.0.1) z r.2 (more b.0 ts b.1 r.0.1 left r.0.0 p.1 (subst (S ts left) p.0 s) (operand b.1 r.0 r.1))
 
-  two_found : ((ts : List Tok) → most level ts ≡ 1) → ((operator : Operator) (ts us rest : List Tok) (e f : Expr) → level_of operator ≡ level → R ts e (Binary operator ∷ us) → R us f rest → S ts (Apply operator e f) rest) → Sound (level_at syntax inside (suc level)) S
+  two_found : ((ts : List Tok) → most level ts ≡ 1) → ((operator : Operator) (ts us rest : List Tok) (e f : Expr) → level_of operator ≡ level → R ts e (Binary operator ∷ us) → R us f rest → S ts (Apply operator e f) rest) → Sound (level_at inside (suc level)) S
   unfolding level_at
   two_found single more ts y e =
-      let x = bound (level_at syntax inside level ts) _ y e in
-      once_found (S ts) (operator_at level) (applied syntax (level_at syntax inside level)) (most level x.0.1) x.0.0 x.0.1 y (single x.0.1) (one ts x.0.1 x.0.0 (operand ts x.0 x.1)) (turn x.0.0 x.0.1 (operand ts x.0 x.1)) x.2
+      let x = bound (level_at inside level ts) _ y e in
+      once_found (S ts) (operator_at level) (applied (level_at inside level)) (most level x.0.1) x.0.0 x.0.1 y (single x.0.1) (one ts x.0.1 x.0.0 (operand ts x.0 x.1)) (turn x.0.0 x.0.1 (operand ts x.0 x.1)) x.2
     where
-      turn : (left : Expr) (us : List Tok) → R ts left us → (b : Operator × List Tok) (z : Expr × List Tok) → operator_at level us ≡ Some b → applied syntax (level_at syntax inside level) left b ≡ Some z → S ts z.0 z.1
+      turn : (left : Expr) (us : List Tok) → R ts left us → (b : Operator × List Tok) (z : Expr × List Tok) → operator_at level us ≡ Some b → applied (level_at inside level) left b ≡ Some z → S ts z.0 z.1
       turn left us s b z begun stepped =
           let p = operator_found level us b begun in
-          let r = bound (level_at syntax inside level b.1) _ z stepped in
+          let r = bound (level_at inside level b.1) _ z stepped in
           carried (S ts) (Apply b.0 left r.0.0, r.0.1) z r.2 (more b.0 ts b.1 r.0.1 left r.0.0 p.1 (subst (R ts left) p.0 s) (operand b.1 r.0 r.1))
 
 -- the operators of each level
@@ -142,31 +142,31 @@ product_more o.Multiply ts us rest e f is a b = g.ProductReads.product ts us res
 product_more _ ts us rest e f is a b = absurd (omega arith)
 
 module _ (inside : Reader Expr) (h : Sound inside OrReads) where
-  paren_found : (ts : List Tok) (y : Expr × List Tok) → paren_at syntax inside ts ≡ Some y → PrimaryReads (Single m.Open ∷ ts) y.0 y.1
+  paren_found : (ts : List Tok) (y : Expr × List Tok) → paren_at inside ts ≡ Some y → PrimaryReads (Single m.Open ∷ ts) y.0 y.1
   unfolding paren_at
   paren_found ts y e =
       let x = bound (inside ts) _ y e in
       let p = bound (past m.Close x.0.1) _ y x.2 in
       carried (PrimaryReads (Single m.Open ∷ ts)) (x.0.0, p.0) y p.2 (g.PrimaryReads.paren ts p.0 x.0.0 (subst (OrReads ts x.0.0) (past_found m.Close x.0.1 p.0 p.1) (h ts x.0 x.1)))
 
-  elements_found : (ts us : List Tok) (front : Exprs) (y : Expr × List Tok) → ElementsRead ts front us → more_elements_at syntax inside front us ≡ Some y → PrimaryReads (Single m.OpenBracket ∷ ts) y.0 y.1
+  elements_found : (ts us : List Tok) (front : Exprs) (y : Expr × List Tok) → ElementsRead ts front us → more_elements_at inside front us ≡ Some y → PrimaryReads (Single m.OpenBracket ∷ ts) y.0 y.1
   unfolding more_elements_at
   elements_found ts us front y a e =
-      let all = bound (repeated (length us) (past m.Comma) (extended syntax inside) front us) _ y e in
+      let all = bound (repeated (length us) (past m.Comma) (extended inside) front us) _ y e in
       let p = bound (past m.CloseBracket all.0.1) _ y all.2 in
-      let read = repeated_found (ElementsRead ts) (past m.Comma) (extended syntax inside) turn (length us) front us all.0 a all.1 in
+      let read = repeated_found (ElementsRead ts) (past m.Comma) (extended inside) turn (length us) front us all.0 a all.1 in
       carried (PrimaryReads (Single m.OpenBracket ∷ ts)) (Array all.0.0, p.0) y p.2 (g.PrimaryReads.array ts p.0 all.0.0 (subst (ElementsRead ts all.0.0) (past_found m.CloseBracket all.0.1 p.0 p.1) read))
     where
-      turn : (es : Exprs) (vs b : List Tok) (z : Exprs × List Tok) → ElementsRead ts es vs → past m.Comma vs ≡ Some b → extended syntax inside es b ≡ Some z → ElementsRead ts z.0 z.1
+      turn : (es : Exprs) (vs b : List Tok) (z : Exprs × List Tok) → ElementsRead ts es vs → past m.Comma vs ≡ Some b → extended inside es b ≡ Some z → ElementsRead ts z.0 z.1
       turn es vs b z s begun stepped =
           let r = bound (inside b) _ z stepped in
           carried (ElementsRead ts) (With es r.0.0, r.0.1) z r.2 (g.ElementsRead.further ts b r.0.1 es r.0.0 (subst (ElementsRead ts es) (past_found m.Comma vs b begun) s) (h b r.0 r.1))
 
-  array_found : (ts : List Tok) (y : Expr × List Tok) → array_at syntax inside ts ≡ Some y → PrimaryReads (Single m.OpenBracket ∷ ts) y.0 y.1
+  array_found : (ts : List Tok) (y : Expr × List Tok) → array_at inside ts ≡ Some y → PrimaryReads (Single m.OpenBracket ∷ ts) y.0 y.1
   unfolding array_at
   array_found ts y e = by_close (past m.CloseBracket ts) refl e
     where
-      by_close : (c : Option (List Tok)) → past m.CloseBracket ts ≡ c → go_on c (inside ts >>= λ first. more_elements_at syntax inside (With Empty first.0) first.1) (λ rest. Some (Array Empty, rest)) ≡ Some y → PrimaryReads (Single m.OpenBracket ∷ ts) y.0 y.1
+      by_close : (c : Option (List Tok)) → past m.CloseBracket ts ≡ c → go_on c (inside ts >>= λ first. more_elements_at inside (With Empty first.0) first.1) (λ rest. Some (Array Empty, rest)) ≡ Some y → PrimaryReads (Single m.OpenBracket ∷ ts) y.0 y.1
       by_close None is e =
           let x = bound (inside ts) _ y e in
           elements_found ts x.0.1 (With Empty x.0.0) y (g.ElementsRead.first ts x.0.1 x.0.0 (h ts x.0 x.1)) x.2
@@ -174,7 +174,7 @@ module _ (inside : Reader Expr) (h : Sound inside OrReads) where
           let F : List Tok → Type 0 = λ l. PrimaryReads (Single m.OpenBracket ∷ l) (Array Empty) rest in
           carried (PrimaryReads (Single m.OpenBracket ∷ ts)) (Array Empty, rest) y e (subst F (sym (past_found m.CloseBracket ts rest is)) (g.PrimaryReads.no_elements rest))
 
-  primary_found_by : (t : Tok) (ts : List Tok) (y : Expr × List Tok) → primary_by syntax inside t ts ≡ Some y → PrimaryReads (t ∷ ts) y.0 y.1
+  primary_found_by : (t : Tok) (ts : List Tok) (y : Expr × List Tok) → primary_by inside t ts ≡ Some y → PrimaryReads (t ∷ ts) y.0 y.1
   primary_found_by (Digits bytes) ts y e = carried (PrimaryReads (Digits bytes ∷ ts)) _ y e (g.PrimaryReads.digits bytes ts)
   primary_found_by (Quoted bytes) ts y e = carried (PrimaryReads (Quoted bytes ∷ ts)) _ y e (g.PrimaryReads.text bytes ts)
   primary_found_by (Name bytes) ts y e = carried (PrimaryReads (Name bytes ∷ ts)) _ y e (g.PrimaryReads.name bytes ts)
@@ -185,18 +185,18 @@ module _ (inside : Reader Expr) (h : Sound inside OrReads) where
   primary_found_by (Single m.Open) ts y e = paren_found ts y e
   primary_found_by _ ts y e = cc
 
-  primary_found : Sound (primary_at syntax inside) PrimaryReads
+  primary_found : Sound (primary_at inside) PrimaryReads
   unfolding primary_at
   primary_found [] y e = cc
   primary_found (t ∷ ts) y e = primary_found_by t ts y e
 
-  index_found : Sound (index_at syntax inside) IndexReads
+  index_found : Sound (index_at inside) IndexReads
   unfolding index_at
   index_found ts y e =
-      let x = bound (primary_at syntax inside ts) _ y e in
-      repeated_found (IndexReads ts) (past m.OpenBracket) (indexed syntax inside) turn (length x.0.1) x.0.0 x.0.1 y (g.IndexReads.one_primary ts x.0.1 x.0.0 (primary_found ts x.0 x.1)) x.2
+      let x = bound (primary_at inside ts) _ y e in
+      repeated_found (IndexReads ts) (past m.OpenBracket) (indexed inside) turn (length x.0.1) x.0.0 x.0.1 y (g.IndexReads.one_primary ts x.0.1 x.0.0 (primary_found ts x.0 x.1)) x.2
     where
-      turn : (array : Expr) (us b : List Tok) (z : Expr × List Tok) → IndexReads ts array us → past m.OpenBracket us ≡ Some b → indexed syntax inside array b ≡ Some z → IndexReads ts z.0 z.1
+      turn : (array : Expr) (us b : List Tok) (z : Expr × List Tok) → IndexReads ts array us → past m.OpenBracket us ≡ Some b → indexed inside array b ≡ Some z → IndexReads ts z.0 z.1
       turn array us b z s begun stepped =
           let place = bound (place_at inside b) _ z stepped in
           let x = bound (inside b) _ place.0 place.1 in
@@ -205,29 +205,29 @@ module _ (inside : Reader Expr) (h : Sound inside OrReads) where
           let placed : OrReads b place.0.0 (Single m.CloseBracket ∷ place.0.1) = carried (λ e rest. OrReads b e (Single m.CloseBracket ∷ rest)) (x.0.0, p.0) place.0 p.2 read in
           carried (IndexReads ts) (Index array place.0.0, place.0.1) z place.2 (g.IndexReads.element ts b place.0.1 array place.0.0 (subst (IndexReads ts array) (past_found m.OpenBracket us b begun) s) placed)
 
-  unary_found : Sound (unary_at syntax inside) UnaryReads
+  unary_found : Sound (unary_at inside) UnaryReads
   unfolding unary_at
   unary_found ts y e = by_minus (past_minus ts) refl e
     where
-      by_not : (c : Option (List Tok)) → past m.Not ts ≡ c → go_on c (index_at syntax inside ts) (λ rest. index_at syntax inside rest >>= λ e. Some (Not e.0, e.1)) ≡ Some y → UnaryReads ts y.0 y.1
+      by_not : (c : Option (List Tok)) → past m.Not ts ≡ c → go_on c (index_at inside ts) (λ rest. index_at inside rest >>= λ e. Some (Not e.0, e.1)) ≡ Some y → UnaryReads ts y.0 y.1
       by_not None is e = g.UnaryReads.bare ts y.1 y.0 (index_found ts y e)
       by_not (Some us) is e =
-          let x = bound (index_at syntax inside us) _ y e in
+          let x = bound (index_at inside us) _ y e in
           let F : List Tok → Type 0 = λ l. UnaryReads l (Not x.0.0) x.0.1 in
           carried (UnaryReads ts) (Not x.0.0, x.0.1) y x.2 (subst F (sym (past_found m.Not ts us is)) (g.UnaryReads.negation us x.0.1 x.0.0 (index_found us x.0 x.1)))
 
-      by_minus : (c : Option (List Tok)) → past_minus ts ≡ c → go_on c (go_on (past m.Not ts) (index_at syntax inside ts) (λ rest. index_at syntax inside rest >>= λ e. Some (Not e.0, e.1))) (λ rest. index_at syntax inside rest >>= λ e. Some (Negative e.0, e.1)) ≡ Some y → UnaryReads ts y.0 y.1
+      by_minus : (c : Option (List Tok)) → past_minus ts ≡ c → go_on c (go_on (past m.Not ts) (index_at inside ts) (λ rest. index_at inside rest >>= λ e. Some (Not e.0, e.1))) (λ rest. index_at inside rest >>= λ e. Some (Negative e.0, e.1)) ≡ Some y → UnaryReads ts y.0 y.1
       by_minus None is e = by_not (past m.Not ts) refl e
       by_minus (Some us) is e =
-          let x = bound (index_at syntax inside us) _ y e in
+          let x = bound (index_at inside us) _ y e in
           let F : List Tok → Type 0 = λ l. UnaryReads l (Negative x.0.0) x.0.1 in
           carried (UnaryReads ts) (Negative x.0.0, x.0.1) y x.2 (subst F (sym (past_minus_found ts us is)) (g.UnaryReads.minus us x.0.1 x.0.0 (index_found us x.0 x.1)))
 
-  tightest_found : Sound (level_at syntax inside 0) UnaryReads
+  tightest_found : Sound (level_at inside 0) UnaryReads
   unfolding level_at
   tightest_found ts y e = unary_found ts y e
 
-  level_found : Sound (level_at syntax inside 6) OrReads
+  level_found : Sound (level_at inside 6) OrReads
   level_found =
       let product = operands_found inside 0 UnaryReads ProductReads tightest_found g.ProductReads.one_unary product_more in
       let sum = operands_found inside 1 ProductReads SumReads product g.SumReads.one_product (λ operator ts us rest e f is a b. g.SumReads.sum operator ts us rest e f (level_adds operator is) a b) in
@@ -236,11 +236,11 @@ module _ (inside : Reader Expr) (h : Sound inside OrReads) where
       let and = operands_found inside 4 ComparisonReads AndReads comparison g.AndReads.one_comparison and_more in
       operands_found inside 5 AndReads OrReads and g.OrReads.one_and or_more
 
-inside_found : (room : ℕ) → Sound (inside_at syntax room) OrReads
+inside_found : (room : ℕ) → Sound (inside_at room) OrReads
 unfolding inside_at
 inside_found zero ts y e = cc
-inside_found (suc room) ts y e = level_found (inside_at syntax room) (inside_found room) ts y e
+inside_found (suc room) ts y e = level_found (inside_at room) (inside_found room) ts y e
 
 -- what is read is an expression of the grammar
-pub or_found : (room : ℕ) → Sound (level_at syntax (inside_at syntax room) 6) OrReads
-or_found room = level_found (inside_at syntax room) (inside_found room)
+pub or_found : (room : ℕ) → Sound (level_at (inside_at room) 6) OrReads
+or_found room = level_found (inside_at room) (inside_found room)

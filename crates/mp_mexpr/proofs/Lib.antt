@@ -1,14 +1,11 @@
-pub mod Bounds
 pub mod Chains
 pub mod Depth
 pub mod Derived
-pub mod Equality
+pub mod Evaluating
 pub mod Found
 pub mod Lexing
-pub mod Names
-pub mod Natural
 pub mod Numbers
 pub mod Operators
 pub mod Reading
 pub mod Readings
-pub mod Rows
+pub mod Views

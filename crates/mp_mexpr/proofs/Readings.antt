@@ -1,13 +1,13 @@
 -- The reading functions and the grammar say the same.
 use Rattle.std.proofs.Common.{◌≡◌, ℕ, List, [], ◌∷◌, length, Bool, true, false, if◌then◌else◌, Option, Some, None, Result, Ok, Err, refl, sym, ap, ◌∙◌, subst, arith}
 use Rattle.mp_base.specs.declared.kinds.MacroKind.TheVariants.{NestDeep, BadExpression}
-use Rattle.mp_mexpr.specs.declared.fault.MacroFault.{MacroFault}
-use Rattle.mp_mexpr.specs.declared.fault.MacroFault.TheVariants as f
-use Rattle.mp_mexpr.specs.declared.value.Value.{Value}
-use Rattle.mp_mexpr.specs.Environments.{Environment}
-use Rattle.mp_mexpr.specs.Gives.{Gives}
-use Rattle.mp_mexpr.specs.Grammar.{whole, is_empty, expr_at, syntax, expression_of, value_or_bad, value_by, meaning}
-use Rattle.mp_mexpr.specs.Meaning.{Valued}
+use Rattle.mp_mvalue.specs.declared.fault.MacroFault.{MacroFault}
+use Rattle.mp_mvalue.specs.declared.fault.MacroFault.TheVariants as f
+use Rattle.mp_mvalue.specs.declared.sharing.SharedValue.{SharedValue}
+use Rattle.mp_mvalue.specs.Environments.{Names}
+use Rattle.mp_mvalue.specs.Gives.{GivesValue}
+use Rattle.mp_mvalue.specs.Made.{Valued}
+use Rattle.mp_mexpr.specs.Grammar.{whole, is_empty, expr_at, expression_of, value_or_bad, value_by, meaning}
 use Rattle.mp_mexpr.specs.Readings as g
 use Rattle.mp_mexpr.specs.Readings.{OrReads, Reads, Means, GivesMeant}
 use Rattle.mp_mexpr.specs.Syntax.{Expr}
@@ -21,7 +21,7 @@ is_empty-nil [] e = refl
 is_empty-nil (t ∷ ts) e = cc
 
 pub expression_found : (ts : List Tok) (e : Expr) → expression_of ts ≡ Some e → Reads ts e
-expression_found ts e h = by_read (expr_at syntax ts) refl h
+expression_found ts e h = by_read (expr_at ts) refl h
   where
     by_end : (r : Expr × List Tok) (b : Bool) → is_empty r.1 ≡ b → OrReads ts r.0 r.1 → (if b then Some r.0 else None) ≡ Some e → OrReads ts e []
     by_end r true empty read h =
@@ -30,7 +30,7 @@ expression_found ts e h = by_read (expr_at syntax ts) refl h
         subst (λ x. OrReads ts x []) same (subst (OrReads ts r.0) nil read)
     by_end r false empty read h = cc
 
-    by_read : (r : Option (Expr × List Tok)) → expr_at syntax ts ≡ r → whole r ≡ Some e → OrReads ts e []
+    by_read : (r : Option (Expr × List Tok)) → expr_at ts ≡ r → whole r ≡ Some e → OrReads ts e []
     by_read None is h = cc
     by_read (Some r) is h = by_end r (is_empty r.1) refl (or_found 100 ts r is) h
 
@@ -45,38 +45,38 @@ expression_one ts e f a b =
     let whole_same : whole (pair e) ≡ whole (pair f) = ap whole same in
     cc
 
-pub means_value : (env : Environment) (r : List Tok × Bool) → Means env r (value_by env r)
-means_value env r = by_deep (is_deep r.0) refl r.1 refl
+pub means_value : (names : Names) (r : List Tok × Bool) → Means names r (value_by names r)
+means_value names r = by_deep (is_deep r.0) refl r.1 refl
   where
-    by_expression : (x : Option Expr) → expression_of r.0 ≡ x → is_deep r.0 ≡ false → Means env (r.0, true) (value_or_bad env x)
+    by_expression : (x : Option Expr) → expression_of r.0 ≡ x → is_deep r.0 ≡ false → Means names (r.0, true) (value_or_bad names x)
     by_expression (Some e) is shallow = g.Means.read r.0 e shallow (expression_found r.0 e is)
     by_expression None is shallow =
         g.Means.unread r.0 shallow (λ e reads. let other = sym is ∙ expression_only r.0 e shallow reads in cc)
 
-    by_whole : (w : Bool) → r.1 ≡ w → is_deep r.0 ≡ false → Means env (r.0, w) (if w then value_or_bad env (expression_of r.0) else Err BadExpression)
+    by_whole : (w : Bool) → r.1 ≡ w → is_deep r.0 ≡ false → Means names (r.0, w) (if w then value_or_bad names (expression_of r.0) else Err BadExpression)
     by_whole true is shallow = by_expression (expression_of r.0) refl shallow
     by_whole false is shallow = g.Means.cut r.0 shallow
 
-    by_deep : (d : Bool) → is_deep r.0 ≡ d → (w : Bool) → r.1 ≡ w → Means env (r.0, w) (if d then Err NestDeep else if w then value_or_bad env (expression_of r.0) else Err BadExpression)
+    by_deep : (d : Bool) → is_deep r.0 ≡ d → (w : Bool) → r.1 ≡ w → Means names (r.0, w) (if d then Err NestDeep else if w then value_or_bad names (expression_of r.0) else Err BadExpression)
     by_deep true is w same = g.Means.deep r.0 w is
     by_deep false is w same = by_whole w same is
 
-pub means_one : (env : Environment) (r : List Tok × Bool) (value : Valued) → Means env r value → value ≡ value_by env r
-means_one env _ _ (g.Means.deep ts w is) =
-    ap (λ (d : Bool). if d then Err NestDeep else if w then value_or_bad env (expression_of ts) else Err BadExpression) (sym is)
-means_one env _ _ (g.Means.cut ts is) = ap (λ (d : Bool). if d then Err NestDeep else Err BadExpression) (sym is)
-means_one env _ _ (g.Means.unread ts is none) =
-    ap (value_or_bad env) (sym (unread (expression_of ts) refl))
-    ∙ ap (λ (d : Bool). if d then Err NestDeep else value_or_bad env (expression_of ts)) (sym is)
+pub means_one : (names : Names) (r : List Tok × Bool) (value : Valued) → Means names r value → value ≡ value_by names r
+means_one names _ _ (g.Means.deep ts w is) =
+    ap (λ (d : Bool). if d then Err NestDeep else if w then value_or_bad names (expression_of ts) else Err BadExpression) (sym is)
+means_one names _ _ (g.Means.cut ts is) = ap (λ (d : Bool). if d then Err NestDeep else Err BadExpression) (sym is)
+means_one names _ _ (g.Means.unread ts is none) =
+    ap (value_or_bad names) (sym (unread (expression_of ts) refl))
+    ∙ ap (λ (d : Bool). if d then Err NestDeep else value_or_bad names (expression_of ts)) (sym is)
   where
     unread : (x : Option Expr) → expression_of ts ≡ x → expression_of ts ≡ None
     unread None same = same
     unread (Some e) same = absurd (none e (expression_found ts e same))
-means_one env _ _ (g.Means.read ts e is reads) =
-    ap (value_or_bad env) (sym (expression_only ts e is reads))
-    ∙ ap (λ (d : Bool). if d then Err NestDeep else value_or_bad env (expression_of ts)) (sym is)
+means_one names _ _ (g.Means.read ts e is reads) =
+    ap (value_or_bad names) (sym (expression_only ts e is reads))
+    ∙ ap (λ (d : Bool). if d then Err NestDeep else value_or_bad names (expression_of ts)) (sym is)
 
-pub gives_meant : (env : Environment) (text : List ℕ) (result : Result Value MacroFault) → Gives result (meaning env text) → GivesMeant env text result
-gives_meant env text (Ok value) same = subst (Means env (tokens text)) same (means_value env (tokens text))
-gives_meant env text (Err (f.Refused kind)) same = subst (Means env (tokens text)) same (means_value env (tokens text))
-gives_meant env text (Err f.NoMemory) same = tt
+pub gives_meant : (names : Names) (text : List ℕ) (result : Result SharedValue MacroFault) → GivesValue result (meaning names text) → GivesMeant names text result
+gives_meant names text (Ok value) same = subst (Means names (tokens text)) same (means_value names (tokens text))
+gives_meant names text (Err (f.Refused kind)) same = subst (Means names (tokens text)) same (means_value names (tokens text))
+gives_meant names text (Err f.NoMemory) same = tt

@@ -1,18 +1,13 @@
 -- What each operator makes of its operands.
-use Rattle.std.specs.Prelude.{◌≡◌, ℕ, zero, suc, ◌+◌, ◌-◌, ◌*◌, ◌^◌, ℤ, pos, negsuc, ◌+ℤ◌, ◌-ℤ◌, ◌*ℤ◌, neg_ℤ, int_lt, int_le, List, [], ◌∷◌, ◌++◌, length, slice_get, Bool, true, false, not, ◌&&◌, if◌then◌else◌, nat_lt, nat_le, Option, Some, None, Result, Ok, Err, ok_or}
+use Rattle.std.specs.Prelude.{◌≡◌, ℕ, zero, suc, ◌+◌, ◌-◌, ◌*◌, ◌^◌, ℤ, pos, negsuc, ◌+ℤ◌, ◌-ℤ◌, ◌*ℤ◌, neg_ℤ, int_lt, int_le, List, [], ◌∷◌, ◌++◌, slice_get, Bool, true, false, not, if◌then◌else◌, nat_lt, Option, Some, None, Result, Ok, Err, ok_or}
 use Rattle.std.specs.List.{list_any}
 use Rattle.mp_base.specs.declared.kinds.MacroKind.{MacroKind}
-use Rattle.mp_base.specs.declared.kinds.MacroKind.TheVariants.{Unknown, WrongKind, Overflow, OutOfRange, ArrayLimit}
+use Rattle.mp_base.specs.declared.kinds.MacroKind.TheVariants.{Unknown, WrongKind, Overflow, OutOfRange}
 use Rattle.mp_mexpr.specs.declared.operator.Operator.{Operator}
 use Rattle.mp_mexpr.specs.declared.operator.Operator.TheVariants.{Or, And, Equal, Different, Less, Greater, AtMost, AtLeast, In, Range, Add, Subtract, Multiply}
-use Rattle.mp_mexpr.specs.declared.value.Value.{Value, Whole, Truth, Text, List'}
-use Rattle.mp_mexpr.specs.declared.value.Value.TheVariants as v
-use Rattle.mp_mexpr.specs.Values.{same, all_nest_within, row_items}
-use Rattle.mp_mexpr.specs.Environments.{Environment, value_in}
-
--- a value, or why there is none
-abbrev pub Valued : Type 0
-Valued = Result Value MacroKind
+use Rattle.mp_mvalue.specs.declared.value.Value.{Value, Whole, Truth, Text, List'}
+use Rattle.mp_mvalue.specs.Made.{Valued, printable, made}
+use Rattle.mp_mvalue.specs.Values.{same, row_items}
 
 -- goes on with what there is
 infixl 10 ◌>>=◌
@@ -28,15 +23,6 @@ fits (negsuc n) = nat_lt n (2 ^ 63)
 -- the number, where it does not pass 64 bits
 abbrev pub number : ℤ → Valued
 number n = if fits n then Ok (Whole n) else Err Overflow
-
--- the array, of at most 100,000 elements and with at most 100 arrays inside one another
-abbrev pub made : List Value → Valued
-made xs = if nat_le (length xs) 100000 && all_nest_within 99 xs then Ok (v.List xs) else Err ArrayLimit
-
--- an array's elements have at most 99 arrays inside one another
-abbrev pub IsBounded : Value → Type 0
-IsBounded (List' n row) = all_nest_within 99 (row_items row) ≡ true
-IsBounded _ = Unit {0}
 
 -- the number of a value
 abbrev pub whole_of : Value → Result ℤ MacroKind
@@ -72,10 +58,6 @@ digits_value ds = number (pos (digits_after 0 ds))
 abbrev pub known : Option Value → Valued
 known (Some x) = Ok x
 known None = Err Unknown
-
--- the value of a name
-abbrev pub name_value : Environment → List ℕ → Valued
-name_value env name = known (value_in env name)
 
 -- unary minus
 abbrev pub negative_value : Valued → Valued
@@ -114,7 +96,7 @@ count_between a b = count_of ((b +ℤ pos 1) -ℤ a)
 -- two numbers, two texts or two arrays
 abbrev pub sum_value : Value → Value → Valued
 sum_value (Whole m) (Whole n) = number (m +ℤ n)
-sum_value (Text s) (Text t) = Ok (Text (s ++ t))
+sum_value (Text s) (Text t) = printable (Text (s ++ t))
 sum_value (List' m r) (List' n s) = made (row_items r ++ row_items s)
 sum_value _ _ = Err WrongKind
 
@@ -143,10 +125,14 @@ apply_value Or a b = or_value a b
 apply_value And a b = and_value a b
 apply_value o a b = a >>= λ x. b >>= λ y. strict_value o x y
 
+-- the element at this place, from 1, if there is one
+abbrev pub at_place : {X : Type 0} → List X → ℤ → Option X
+at_place xs (pos (suc k)) = slice_get xs k
+at_place xs _ = None
+
 -- the element at this place, from 1
 abbrev pub element_at : List Value → ℤ → Valued
-element_at xs (pos (suc k)) = ok_or (slice_get xs k) OutOfRange
-element_at xs _ = Err OutOfRange
+element_at xs place = ok_or (at_place xs place) OutOfRange
 
 -- the element of an array at the place that a number names
 abbrev pub element_value : Value → Value → Valued

@@ -2,14 +2,15 @@
 -- processing language"; the precedence of the operators is modpath's own). Operators of one level associate to the left.
 use Rattle.std.specs.Prelude.{◌≡◌, ℕ, List, [], ◌∷◌, Bool, true, false, Result, Ok, Err}
 use Rattle.mp_base.specs.declared.kinds.MacroKind.TheVariants.{NestDeep, BadExpression}
-use Rattle.mp_mexpr.specs.declared.fault.MacroFault.{MacroFault}
-use Rattle.mp_mexpr.specs.declared.fault.MacroFault.TheVariants as f
+use Rattle.mp_mvalue.specs.declared.fault.MacroFault.{MacroFault}
+use Rattle.mp_mvalue.specs.declared.fault.MacroFault.TheVariants as f
 use Rattle.mp_mexpr.specs.declared.operator.Operator.{Operator}
 use Rattle.mp_mexpr.specs.declared.operator.Operator.TheVariants as o
 use Rattle.mp_mexpr.specs.declared.token.Mark.TheVariants as m
-use Rattle.mp_mexpr.specs.declared.value.Value.{Value}
-use Rattle.mp_mexpr.specs.Environments.{Environment}
-use Rattle.mp_mexpr.specs.Meaning.{Valued}
+use Rattle.mp_mvalue.specs.declared.sharing.SharedValue.{SharedValue}
+use Rattle.mp_mvalue.specs.Environments.{Names}
+use Rattle.mp_mvalue.specs.Made.{Valued}
+use Rattle.mp_mvalue.specs.Shared.{unshared}
 use Rattle.mp_mexpr.specs.Syntax.{Expr, Exprs, Number, Quote, Constant, Named, Array, Negative, Not, Apply, Index, Empty, With, value_of}
 use Rattle.mp_mexpr.specs.Tokens.{Tok, Digits, Quoted, Name, Binary, Single, tokens, is_deep}
 
@@ -92,14 +93,14 @@ Reads ts e = OrReads ts e []
 
 -- by the tokens before the first byte that begins none, and whether there is no such byte: the value, or the kind of
 -- what is wrong
-pub data Means (env : Environment) : List Tok × Bool → Valued → Type 0 where
-  deep : (ts : List Tok) (whole : Bool) → is_deep ts ≡ true → Means env (ts, whole) (Err NestDeep)
-  cut : (ts : List Tok) → is_deep ts ≡ false → Means env (ts, false) (Err BadExpression)
-  unread : (ts : List Tok) → is_deep ts ≡ false → ((e : Expr) → Reads ts e → ⊥) → Means env (ts, true) (Err BadExpression)
-  read : (ts : List Tok) (e : Expr) → is_deep ts ≡ false → Reads ts e → Means env (ts, true) (value_of env e)
+pub data Means (names : Names) : List Tok × Bool → Valued → Type 0 where
+  deep : (ts : List Tok) (whole : Bool) → is_deep ts ≡ true → Means names (ts, whole) (Err NestDeep)
+  cut : (ts : List Tok) → is_deep ts ≡ false → Means names (ts, false) (Err BadExpression)
+  unread : (ts : List Tok) → is_deep ts ≡ false → ((e : Expr) → Reads ts e → ⊥) → Means names (ts, true) (Err BadExpression)
+  read : (ts : List Tok) (e : Expr) → is_deep ts ≡ false → Reads ts e → Means names (ts, true) (value_of names e)
 
 -- what was returned is what these bytes mean, unless there was no memory
-abbrev pub GivesMeant : Environment → List ℕ → Result Value MacroFault → Type 0
-GivesMeant env bytes (Ok value) = Means env (tokens bytes) (Ok value)
-GivesMeant env bytes (Err (f.Refused kind)) = Means env (tokens bytes) (Err kind)
-GivesMeant env bytes (Err f.NoMemory) = Unit {0}
+abbrev pub GivesMeant : Names → List ℕ → Result SharedValue MacroFault → Type 0
+GivesMeant names bytes (Ok value) = Means names (tokens bytes) (Ok (unshared value))
+GivesMeant names bytes (Err (f.Refused kind)) = Means names (tokens bytes) (Err kind)
+GivesMeant names bytes (Err f.NoMemory) = Unit {0}

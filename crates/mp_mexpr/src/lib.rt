@@ -1,26 +1,16 @@
-//! Macro values and expressions.
+//! Macro expressions: their tokens, how they are read, and their values.
 #![tactic(auto)]
 
-pub mod defines;
-pub mod env;
 pub mod evaluate;
-pub mod fault;
+pub mod expression;
 pub mod laws;
 pub mod lexer;
 pub mod meaning;
 pub mod operator;
 pub mod reader;
 pub mod token;
-pub mod value;
-pub mod valued;
 
-pub use defines::{Define, Defines};
-pub use env::Env;
 pub use evaluate::eval;
-pub use fault::MacroFault;
-pub use laws::{grammar_law, same_law};
+pub use laws::grammar_law;
+pub use meaning::truth_of;
 pub use operator::Operator;
-pub use value::{Value, Values, copy, print_value, same};
-
-#[cfg(test)]
-mod tests;

@@ -1,18 +1,17 @@
-// From the tokens of an expression to its value. Each operand gets its value, or the reason why it has none, as it is
-// read; what such a reason means for the whole is left to the operators.
-ghost use Rattle.std.specs.Prelude.{◌≡◌, IfOk, Ok, length};
+// From the tokens of an expression to its syntax.
+ghost use Rattle.std.specs.Prelude.{◌≡◌, IfOk, length};
 ghost use Rattle.mp_mexpr.specs.Tokens.{toks};
+ghost use Rattle.mp_mexpr.specs.Shown.{expr_of, after, all_stepped};
+ghost use Rattle.mp_mexpr.specs.Syntax as s;
 ghost use Rattle.mp_mexpr.specs.Gives.{Reads, Begins};
-ghost use Rattle.mp_mexpr.specs.Grammar.{values, past, past_minus, operator_at, most, is_mark, level_of, repeated, applied, indexed, extended, more_elements_at, array_at, paren_at, place_at, primary_at, index_at, unary_at, level_at, inside_at};
+ghost use Rattle.mp_mexpr.specs.Grammar.{past, past_minus, operator_at, most, is_mark, level_of, repeated, applied, indexed, extended, more_elements_at, array_at, paren_at, place_at, primary_at, index_at, unary_at, level_at, inside_at};
 
-use crate::env::Env;
-use crate::meaning::{Elements, Valued};
+use crate::expression::{Expr, Step};
 use crate::operator::Operator;
 use crate::token::{Mark, Token};
-use crate::value::{Value, Values};
-use crate::valued::{apply, array, index, named, negation, negative, number, quote, with};
 use mp_base::NoMemory;
-use std::alloc::Global;
+use sqlite_items::Items;
+use std::alloc::{AllocError, Global};
 
 /// The tokens that are not read yet.
 pub type Rest<'a, 't> = &'a [Token<'t>];
@@ -31,6 +30,17 @@ impl From<NoMemory> for Unread {
     ghost from_gives = { λ _ e. e ≡ NoMemory };
 
     fn from(_: NoMemory) -> Self {
+        Unread::NoMemory
+    }
+}
+
+impl From<AllocError> for Unread {
+    ghost use Rattle.std.specs.Prelude.{◌≡◌};
+    ghost use Rattle.mp_mexpr.specs.declared.reader.Unread.TheVariants.{NoMemory};
+
+    ghost from_gives = { λ _ e. e ≡ NoMemory };
+
+    fn from(_: AllocError) -> Self {
         Unread::NoMemory
     }
 }
@@ -105,33 +115,52 @@ fn most(level: u8, tokens: Rest) -> usize
     }
 }
 
+// The expression in a box.
+fn boxed<'t>(alloc: Global, e: Expr<'t>) -> Result<Box<Expr<'t>>, NoMemory>
+    ensures { IfOk result (λ b. expr_of b.value ≡ expr_of e.entry) }
+{
+    match Box::new(alloc, e) {
+        Ok(b) => Ok(b),
+        Err(_) => Err(NoMemory),
+    }
+}
+
+// An operand with its steps.
+#[tactic(auto, using(crate::proofs::Views::chains))]
+fn chained<'t>(alloc: Global, first: Expr<'t>, steps: Items<Step<'t>>) -> Result<Expr<'t>, NoMemory>
+    ensures { IfOk result (λ e. expr_of e ≡ all_stepped (expr_of first.entry) steps.entry) }
+{
+    if steps.is_empty() {
+        return Ok(first);
+    }
+    Ok(Expr::Chain(boxed(alloc, first)?, steps))
+}
+
 // What stands in a bracket, where so many more may be open.
 #[cycle(reader)]
 #[tactic(auto, using(crate::proofs::Reading::rooms))]
 fn inside_of<'a, 't>(
     alloc: Global,
-    env: &Env,
     room: u16,
     tokens: Rest<'a, 't>,
-) -> Result<(Valued, Rest<'a, 't>), Unread>
-    ensures { Reads (λ x. (x.0, toks x.1.now)) result (inside_at (values env.now) room (toks tokens.now)) }
+) -> Result<(Expr<'t>, Rest<'a, 't>), Unread>
+    ensures { Reads (λ x. (expr_of x.0, toks x.1.now)) result (inside_at room (toks tokens.now)) }
 {
     if room == 0 {
         return Err(Unread::Wrong);
     }
-    level_of(alloc, env, room - 1, 6, tokens)
+    level_of(alloc, room - 1, 6, tokens)
 }
 
 // "," expr, as long as there are.
 #[cycle(reader)]
 fn more_elements<'a, 't>(
     alloc: Global,
-    env: &Env,
     room: u16,
-    first: Elements,
+    first: Items<Expr<'t>>,
     tokens: Rest<'a, 't>,
-) -> Result<(Elements, Rest<'a, 't>), Unread>
-    ensures { Reads (λ x. (x.0, toks x.1.now)) result (repeated (length (toks tokens.now)) (past Mark.Comma) (extended (values env.now) (inside_at (values env.now) room)) first (toks tokens.now)) }
+) -> Result<(Items<Expr<'t>>, Rest<'a, 't>), Unread>
+    ensures { Reads (λ x. (after s.Empty x.0, toks x.1.now)) result (repeated (length (toks tokens.now)) (past Mark.Comma) (extended (inside_at room)) (after s.Empty first.entry) (toks tokens.now)) }
 {
     let mut found = first;
     let (_, mut rest) = tokens.split_at(0);
@@ -140,8 +169,8 @@ fn more_elements<'a, 't>(
         let Some(after) = past(Mark::Comma, rest) else {
             return Ok((found, rest));
         };
-        let (last, next) = inside_of(alloc, env, room, after)?;
-        found = with(found, last)?;
+        let (last, next) = inside_of(alloc, room, after)?;
+        found.push(last)?;
         rest = next;
         left -= 1;
     }
@@ -150,40 +179,39 @@ fn more_elements<'a, 't>(
 
 // "," expr, as long as there are, and "]".
 #[cycle(reader)]
-#[tactic(auto, unfolding(crate::specs::Grammar::more_elements_at))]
+#[tactic(auto, using(crate::proofs::Views::arrays), unfolding(crate::specs::Grammar::more_elements_at))]
 fn elements_of<'a, 't>(
     alloc: Global,
-    env: &Env,
     room: u16,
-    first: Elements,
+    first: Items<Expr<'t>>,
     tokens: Rest<'a, 't>,
-) -> Result<(Valued, Rest<'a, 't>), Unread>
-    ensures { Reads (λ x. (x.0, toks x.1.now)) result (more_elements_at (values env.now) (inside_at (values env.now) room) first (toks tokens.now)) }
+) -> Result<(Expr<'t>, Rest<'a, 't>), Unread>
+    ensures { Reads (λ x. (expr_of x.0, toks x.1.now)) result (more_elements_at (inside_at room) (after s.Empty first.entry) (toks tokens.now)) }
 {
-    let (all, rest) = more_elements(alloc, env, room, first, tokens)?;
+    let (all, rest) = more_elements(alloc, room, first, tokens)?;
     let Some(rest) = past(Mark::CloseBracket, rest) else {
         return Err(Unread::Wrong);
     };
-    Ok((array(all)?, rest))
+    Ok((Expr::Array(all), rest))
 }
 
 // What stands after "[", up to "]".
 #[cycle(reader)]
-#[tactic(auto, unfolding(crate::specs::Grammar::array_at))]
+#[tactic(auto, using(crate::proofs::Views::arrays), unfolding(crate::specs::Grammar::array_at))]
 fn array_of<'a, 't>(
     alloc: Global,
-    env: &Env,
     room: u16,
     tokens: Rest<'a, 't>,
-) -> Result<(Valued, Rest<'a, 't>), Unread>
-    ensures { Reads (λ x. (x.0, toks x.1.now)) result (array_at (values env.now) (inside_at (values env.now) room) (toks tokens.now)) }
+) -> Result<(Expr<'t>, Rest<'a, 't>), Unread>
+    ensures { Reads (λ x. (expr_of x.0, toks x.1.now)) result (array_at (inside_at room) (toks tokens.now)) }
 {
-    let none = Ok(Values::new(alloc));
+    let mut elements = Items::new(alloc);
     if let Some(rest) = past(Mark::CloseBracket, tokens) {
-        return Ok((array(none)?, rest));
+        return Ok((Expr::Array(elements), rest));
     }
-    let (first, rest) = inside_of(alloc, env, room, tokens)?;
-    elements_of(alloc, env, room, with(none, first)?, rest)
+    let (first, rest) = inside_of(alloc, room, tokens)?;
+    elements.push(first)?;
+    elements_of(alloc, room, elements, rest)
 }
 
 // What stands after "(", up to ")".
@@ -191,17 +219,16 @@ fn array_of<'a, 't>(
 #[tactic(auto, unfolding(crate::specs::Grammar::paren_at))]
 fn paren_of<'a, 't>(
     alloc: Global,
-    env: &Env,
     room: u16,
     tokens: Rest<'a, 't>,
-) -> Result<(Valued, Rest<'a, 't>), Unread>
-    ensures { Reads (λ x. (x.0, toks x.1.now)) result (paren_at (values env.now) (inside_at (values env.now) room) (toks tokens.now)) }
+) -> Result<(Expr<'t>, Rest<'a, 't>), Unread>
+    ensures { Reads (λ x. (expr_of x.0, toks x.1.now)) result (paren_at (inside_at room) (toks tokens.now)) }
 {
-    let (value, rest) = inside_of(alloc, env, room, tokens)?;
+    let (inner, rest) = inside_of(alloc, room, tokens)?;
     let Some(rest) = past(Mark::Close, rest) else {
         return Err(Unread::Wrong);
     };
-    Ok((value, rest))
+    Ok((inner, rest))
 }
 
 // Digits, a text, a truth value, a name, an array or a parenthesis.
@@ -209,23 +236,22 @@ fn paren_of<'a, 't>(
 #[tactic(auto, unfolding(crate::specs::Grammar::primary_at))]
 fn primary_of<'a, 't>(
     alloc: Global,
-    env: &Env,
     room: u16,
     tokens: Rest<'a, 't>,
-) -> Result<(Valued, Rest<'a, 't>), Unread>
-    ensures { Reads (λ x. (x.0, toks x.1.now)) result (primary_at (values env.now) (inside_at (values env.now) room) (toks tokens.now)) }
+) -> Result<(Expr<'t>, Rest<'a, 't>), Unread>
+    ensures { Reads (λ x. (expr_of x.0, toks x.1.now)) result (primary_at (inside_at room) (toks tokens.now)) }
 {
     let Some((token, rest)) = tokens.split_first() else {
         return Err(Unread::Wrong);
     };
     match token {
-        Token::Digits(digits) => Ok((number(*digits)?, rest)),
-        Token::Quoted(text) => Ok((quote(alloc, *text)?, rest)),
-        Token::Name(name) => Ok((named(alloc, env, *name)?, rest)),
-        Token::Single(Mark::True) => Ok((Ok(Value::Truth(true)), rest)),
-        Token::Single(Mark::False) => Ok((Ok(Value::Truth(false)), rest)),
-        Token::Single(Mark::OpenBracket) => array_of(alloc, env, room, rest),
-        Token::Single(Mark::Open) => paren_of(alloc, env, room, rest),
+        Token::Digits(digits) => Ok((Expr::Number(*digits), rest)),
+        Token::Quoted(text) => Ok((Expr::Quote(*text), rest)),
+        Token::Name(name) => Ok((Expr::Named(*name), rest)),
+        Token::Single(Mark::True) => Ok((Expr::Constant(true), rest)),
+        Token::Single(Mark::False) => Ok((Expr::Constant(false), rest)),
+        Token::Single(Mark::OpenBracket) => array_of(alloc, room, rest),
+        Token::Single(Mark::Open) => paren_of(alloc, room, rest),
         _ => Err(Unread::Wrong),
     }
 }
@@ -235,53 +261,50 @@ fn primary_of<'a, 't>(
 #[tactic(auto, unfolding(crate::specs::Grammar::index_at))]
 fn index_of<'a, 't>(
     alloc: Global,
-    env: &Env,
     room: u16,
     tokens: Rest<'a, 't>,
-) -> Result<(Valued, Rest<'a, 't>), Unread>
-    ensures { Reads (λ x. (x.0, toks x.1.now)) result (index_at (values env.now) (inside_at (values env.now) room) (toks tokens.now)) }
+) -> Result<(Expr<'t>, Rest<'a, 't>), Unread>
+    ensures { Reads (λ x. (expr_of x.0, toks x.1.now)) result (index_at (inside_at room) (toks tokens.now)) }
 {
-    let (first, rest) = primary_of(alloc, env, room, tokens)?;
-    places_of(alloc, env, room, first, rest)
+    let (first, rest) = primary_of(alloc, room, tokens)?;
+    places_of(alloc, room, first, rest)
 }
 
 // "[" expr "]", as long as there are.
 #[cycle(reader)]
 fn places_of<'a, 't>(
     alloc: Global,
-    env: &Env,
     room: u16,
-    first: Valued,
+    first: Expr<'t>,
     tokens: Rest<'a, 't>,
-) -> Result<(Valued, Rest<'a, 't>), Unread>
-    ensures { Reads (λ x. (x.0, toks x.1.now)) result (repeated (length (toks tokens.now)) (past Mark.OpenBracket) (indexed (values env.now) (inside_at (values env.now) room)) first (toks tokens.now)) }
+) -> Result<(Expr<'t>, Rest<'a, 't>), Unread>
+    ensures { Reads (λ x. (expr_of x.0, toks x.1.now)) result (repeated (length (toks tokens.now)) (past Mark.OpenBracket) (indexed (inside_at room)) (expr_of first.entry) (toks tokens.now)) }
 {
-    let mut found = first;
+    let mut steps = Items::new(alloc);
     let (_, mut rest) = tokens.split_at(0);
     let mut left = tokens.len();
     'turns: while left > 0 {
         let Some(after) = past(Mark::OpenBracket, rest) else {
-            return Ok((found, rest));
+            return Ok((chained(alloc, first, steps)?, rest));
         };
-        let (place, next) = place_of(alloc, env, room, after)?;
-        found = index(alloc, found, place)?;
+        let (place, next) = place_of(alloc, room, after)?;
+        steps.push(Step::Index(place))?;
         rest = next;
         left -= 1;
     }
-    Ok((found, rest))
+    Ok((chained(alloc, first, steps)?, rest))
 }
 
 // What stands after "[", up to "]", where the place of an element is meant.
 #[cycle(reader)]
 fn place_of<'a, 't>(
     alloc: Global,
-    env: &Env,
     room: u16,
     tokens: Rest<'a, 't>,
-) -> Result<(Valued, Rest<'a, 't>), Unread>
-    ensures { Reads (λ x. (x.0, toks x.1.now)) result (place_at (inside_at (values env.now) room) (toks tokens.now)) }
+) -> Result<(Expr<'t>, Rest<'a, 't>), Unread>
+    ensures { Reads (λ x. (expr_of x.0, toks x.1.now)) result (place_at (inside_at room) (toks tokens.now)) }
 {
-    let (place, rest) = inside_of(alloc, env, room, tokens)?;
+    let (place, rest) = inside_of(alloc, room, tokens)?;
     let Some(rest) = past(Mark::CloseBracket, rest) else {
         return Err(Unread::Wrong);
     };
@@ -293,50 +316,46 @@ fn place_of<'a, 't>(
 #[tactic(auto, unfolding(crate::specs::Grammar::unary_at))]
 fn unary_of<'a, 't>(
     alloc: Global,
-    env: &Env,
     room: u16,
     tokens: Rest<'a, 't>,
-) -> Result<(Valued, Rest<'a, 't>), Unread>
-    ensures { Reads (λ x. (x.0, toks x.1.now)) result (unary_at (values env.now) (inside_at (values env.now) room) (toks tokens.now)) }
+) -> Result<(Expr<'t>, Rest<'a, 't>), Unread>
+    ensures { Reads (λ x. (expr_of x.0, toks x.1.now)) result (unary_at (inside_at room) (toks tokens.now)) }
 {
     if let Some(rest) = past_minus(tokens) {
-        let (operand, rest) = index_of(alloc, env, room, rest)?;
-        return Ok((negative(operand)?, rest));
+        let (operand, rest) = index_of(alloc, room, rest)?;
+        return Ok((Expr::Negative(boxed(alloc, operand)?), rest));
     }
     if let Some(rest) = past(Mark::Not, tokens) {
-        let (operand, rest) = index_of(alloc, env, room, rest)?;
-        return Ok((negation(operand)?, rest));
+        let (operand, rest) = index_of(alloc, room, rest)?;
+        return Ok((Expr::Not(boxed(alloc, operand)?), rest));
     }
-    index_of(alloc, env, room, tokens)
+    index_of(alloc, room, tokens)
 }
 
 // Operators of a level with their right operands, as long as there are.
 #[cycle(reader)]
 fn chain_of<'a, 't>(
     alloc: Global,
-    env: &Env,
     room: u16,
     level: u8,
-    first: Valued,
+    first: Expr<'t>,
     tokens: Rest<'a, 't>,
-) -> Result<(Valued, Rest<'a, 't>), Unread>
-    ensures { Reads (λ x. (x.0, toks x.1.now)) result (repeated (most level (toks tokens.now)) (operator_at level) (applied (values env.now) (level_at (values env.now) (inside_at (values env.now) room) level)) first (toks tokens.now)) }
+) -> Result<(Expr<'t>, Rest<'a, 't>), Unread>
+    ensures { Reads (λ x. (expr_of x.0, toks x.1.now)) result (repeated (most level (toks tokens.now)) (operator_at level) (applied (level_at (inside_at room) level)) (expr_of first.entry) (toks tokens.now)) }
 {
-    let mut found = first;
+    let mut steps = Items::new(alloc);
     let (_, mut rest) = tokens.split_at(0);
     let mut left = most(level, tokens);
-    let mut bounded = false;
     'turns: while left > 0 {
         let Some((operator, after)) = operator_at(level, rest) else {
-            return Ok((found, rest));
+            return Ok((chained(alloc, first, steps)?, rest));
         };
-        let (right, next) = level_of(alloc, env, room, level, after)?;
-        found = apply(alloc, operator, bounded, found, right)?;
-        bounded = true;
+        let (right, next) = level_of(alloc, room, level, after)?;
+        steps.push(Step::Apply(operator, right))?;
         rest = next;
         left -= 1;
     }
-    Ok((found, rest))
+    Ok((chained(alloc, first, steps)?, rest))
 }
 
 // Below all levels an operand with its sign; else operands of the tighter level with operators between.
@@ -344,16 +363,15 @@ fn chain_of<'a, 't>(
 #[tactic(auto, using(crate::proofs::Reading::levels))]
 pub(crate) fn level_of<'a, 't>(
     alloc: Global,
-    env: &Env,
     room: u16,
     level: u8,
     tokens: Rest<'a, 't>,
-) -> Result<(Valued, Rest<'a, 't>), Unread>
-    ensures { Reads (λ x. (x.0, toks x.1.now)) result (level_at (values env.now) (inside_at (values env.now) room) level (toks tokens.now)) }
+) -> Result<(Expr<'t>, Rest<'a, 't>), Unread>
+    ensures { Reads (λ x. (expr_of x.0, toks x.1.now)) result (level_at (inside_at room) level (toks tokens.now)) }
 {
     if level == 0 {
-        return unary_of(alloc, env, room, tokens);
+        return unary_of(alloc, room, tokens);
     }
-    let (first, rest) = level_of(alloc, env, room, level - 1, tokens)?;
-    chain_of(alloc, env, room, level - 1, first, rest)
+    let (first, rest) = level_of(alloc, room, level - 1, tokens)?;
+    chain_of(alloc, room, level - 1, first, rest)
 }

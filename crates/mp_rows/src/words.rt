@@ -1,7 +1,7 @@
 // What no clause says: that words are read where there is memory.
 
 use mp_base::{Job, NoMemory, WordList};
-use mp_mexpr::Value;
+use mp_mvalue::Value;
 use mp_words::read_words;
 use std::alloc::Global;
 use std::test::Fail;

@@ -3,8 +3,8 @@ use Rattle.std.proofs.lemmas.List.{drop_more}
 use Rattle.std.proofs.lemmas.Option.{slice_get_within, get_or_from_slice_get}
 use Rattle.std.proofs.Common.{slice_get, ◌≡◌, ℕ, suc, ◌+◌, ◌-◌, ◌*◌, ◌≤◌, ◌<◌, List, [], ◌∷◌, ◌++◌, drop, refl, ap, sym, ◌∙◌, arith, Bool, true, false, Option, Some, None, Result, Ok, Err, nat_le, if◌then◌else◌, append_assoc, subst, take}
 use Rattle.std.specs.Prelude.{IsTrue, is_some, nat_lt, position, ◌&&◌}
-use Rattle.mp_mexpr.specs.declared.defines.Define.{Define}
-use Rattle.mp_mexpr.specs.declared.value.Value.{Value}
+use Rattle.mp_mvalue.specs.declared.defines.Define.{Define}
+use Rattle.mp_mvalue.specs.declared.value.Value.{Value}
 use Rattle.mp_words.specs.Words.{digits_after, is_definable, is_value, value_of, is_equals, define_at, define_or, with_define, defines_of, define_of}
 use Rattle.mp_words.specs.Shown.{wrong_of}
 

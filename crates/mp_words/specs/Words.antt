@@ -6,8 +6,8 @@ use Rattle.mp_base.specs.declared.job.Job.{Job}
 use Rattle.mp_base.specs.declared.job.Job.TheVariants as j
 use Rattle.mp_tokens.specs.Tokens.{is_first, is_word}
 use Rattle.mp_tokens.specs.Terminals.{is_reserved}
-use Rattle.mp_mexpr.specs.declared.value.Value.{Value, Whole, Truth, Text}
-use Rattle.mp_mexpr.specs.declared.defines.Define.{Define}
+use Rattle.mp_mvalue.specs.declared.value.Value.{Value, Whole, Truth, Text}
+use Rattle.mp_mvalue.specs.declared.defines.Define.{Define}
 
 -- what the words ask for: a job, the name of a file, and macro names with values
 pub record Request : Type 0 where

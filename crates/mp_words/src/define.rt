@@ -3,11 +3,11 @@ ghost use Rattle.std.specs.Prelude.{◌≡◌, ◌<◌, Some, None, length, posi
 ghost use Rattle.std.specs.Char.{is_ascii_digit};
 ghost use Rattle.std.specs.List.{list_all, list_any};
 ghost use Rattle.mp_tokens.specs.Tokens.{is_first, is_word};
-ghost use Rattle.mp_mexpr.specs.declared.value.Value.{Whole, Text};
+ghost use Rattle.mp_mvalue.specs.declared.value.Value.{Whole, Text};
 ghost use Rattle.mp_words.specs.Words.{is_name, is_taken, is_definable, is_barred, is_value, digits_after, are_digits, number_within, number_value, value_of, is_equals, define_of};
 
 use mp_base::{Bytes, NoMemory};
-use mp_mexpr::{Define, Value};
+use mp_mvalue::{Define, Value};
 use std::alloc::Global;
 
 /// Whether a word is NAME=VALUE: a macro name that is not reserved, and at most 128 bytes without a quote or a newline.

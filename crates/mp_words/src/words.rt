@@ -5,7 +5,7 @@ ghost use Rattle.mp_words.specs.Shown.{request_seen, Reads, wrong_of};
 
 use crate::define::{copy_of, define_of, is_define};
 use mp_base::{Bytes, Job, NoMemory, WordList};
-use mp_mexpr::Defines;
+use mp_mvalue::Defines;
 use std::alloc::{AllocError, Global};
 use thiserror::Error;
 

@@ -1,5 +1,5 @@
 use Rattle.std.proofs.Common.{◌≡◌, drop, None}
-use Rattle.mp_mexpr.specs.Environments.{value_in}
+use Rattle.mp_mvalue.specs.Environments.{value_in}
 use Rattle.mp_macro.specs.Expansion.{defined}
 use Rattle.mp_macro.proofs.expansion.environment.Given as goal
 

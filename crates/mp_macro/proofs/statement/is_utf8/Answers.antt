@@ -1,6 +1,6 @@
 use Rattle.std.proofs.Common.{sym}
 use Rattle.std.proofs.lemmas.Str.{is_utf8-from_IsUtf8}
-use Rattle.mp_macro.proofs.Values.{utf8-false}
+use Rattle.mp_macro.proofs.Text.{utf8-false}
 use Rattle.mp_macro.proofs.statement.is_utf8.Goals as goal
 
 pub returns-in-Ok : goal.returns-in-Ok

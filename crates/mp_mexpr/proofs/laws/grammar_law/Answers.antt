@@ -12,7 +12,7 @@ pub returns-clause-one_expression : goal.returns-clause-one_expression
 returns-clause-one_expression c = expression_one
 
 pub returns-clause-means : goal.returns-clause-means
-returns-clause-means c = λ env text. means_value env (tokens text)
+returns-clause-means c = λ names text. means_value names (tokens text)
 
 pub returns-clause-one_meaning : goal.returns-clause-one_meaning
-returns-clause-one_meaning c = λ env text. means_one env (tokens text)
+returns-clause-one_meaning c = λ names text. means_one names (tokens text)

@@ -1,9 +1,9 @@
-use Rattle.std.proofs.Common.{◌≡◌, ◌+◌, ◌*◌, length, true}
-use Rattle.std.specs.Prelude.{IfOk}
+use Rattle.std.proofs.Common.{◌≡◌, ◌+◌, ◌*◌, length}
 use Rattle.mp_mexpr.specs.declared.token.Mark.TheVariants as m
 use Rattle.mp_mexpr.specs.Tokens.{toks}
-use Rattle.mp_mexpr.specs.Meaning.{IsBounded}
-use Rattle.mp_mexpr.specs.Grammar.{values, past, operator_at, most, repeated, applied, indexed, extended, level_at, inside_at}
+use Rattle.mp_mexpr.specs.Shown.{expr_of, after, all_stepped}
+use Rattle.mp_mexpr.specs.Syntax.{Empty}
+use Rattle.mp_mexpr.specs.Grammar.{past, operator_at, most, repeated, applied, indexed, extended, level_at, inside_at}
 use Rattle.mp_mexpr.proofs.reader.+reader.Given as goal
 
 abbrev pub decreases-inside_of : goal.decreases-inside_of
@@ -44,29 +44,29 @@ decreases-chain_of l = 1000 * l.room + 8 + 2 * l.level
 
 abbrev pub invariant-more_elements-turns : goal.invariant-more_elements-turns
 invariant-more_elements-turns l =
-    let v = values l.env in
-    let step = extended v (inside_at v l.room) in
-    repeated l.left (past m.Comma) step l.found (toks l.rest) ≡ repeated (length (toks l.tokens)) (past m.Comma) step l.initial.found (toks l.tokens)
+    let step = extended (inside_at l.room) in
+    repeated l.left (past m.Comma) step (after Empty l.found) (toks l.rest) ≡ repeated (length (toks l.tokens)) (past m.Comma) step (after Empty l.initial.found) (toks l.tokens)
 
 abbrev pub decreases-more_elements-turns : goal.decreases-more_elements-turns
 decreases-more_elements-turns l = l.left
 
 abbrev pub invariant-places_of-turns : goal.invariant-places_of-turns
 invariant-places_of-turns l =
-    let v = values l.env in
-    let step = indexed v (inside_at v l.room) in
-    repeated l.left (past m.OpenBracket) step l.found (toks l.rest) ≡ repeated (length (toks l.tokens)) (past m.OpenBracket) step l.initial.found (toks l.tokens)
+    let step = indexed (inside_at l.room) in
+    record {
+      same : expr_of l.first ≡ expr_of l.fn.first;
+      told : repeated l.left (past m.OpenBracket) step (all_stepped (expr_of l.fn.first) l.steps) (toks l.rest) ≡ repeated (length (toks l.tokens)) (past m.OpenBracket) step (expr_of l.fn.first) (toks l.tokens);
+    }
 
 abbrev pub decreases-places_of-turns : goal.decreases-places_of-turns
 decreases-places_of-turns l = l.left
 
 abbrev pub invariant-chain_of-turns : goal.invariant-chain_of-turns
 invariant-chain_of-turns l =
-    let v = values l.env in
-    let step = applied v (level_at v (inside_at v l.room) l.level) in
+    let step = applied (level_at (inside_at l.room) l.level) in
     record {
-      bounded : l.bounded ≡ true → IfOk l.found IsBounded;
-      told : repeated l.left (operator_at l.level) step l.found (toks l.rest) ≡ repeated (most l.level (toks l.tokens)) (operator_at l.level) step l.initial.found (toks l.tokens);
+      same : expr_of l.first ≡ expr_of l.fn.first;
+      told : repeated l.left (operator_at l.level) step (all_stepped (expr_of l.fn.first) l.steps) (toks l.rest) ≡ repeated (most l.level (toks l.tokens)) (operator_at l.level) step (expr_of l.fn.first) (toks l.tokens);
     }
 
 abbrev pub decreases-chain_of-turns : goal.decreases-chain_of-turns

@@ -1,0 +1,11 @@
+//! Tests of macros: expressions, files, bombs, and runs whose calls fail.
+#![tactic(auto)]
+
+#[cfg(test)]
+mod bombs;
+#[cfg(test)]
+mod expressions;
+#[cfg(test)]
+mod files;
+#[cfg(test)]
+mod runs;

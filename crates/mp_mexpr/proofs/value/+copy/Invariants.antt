@@ -1,5 +1,0 @@
-use Rattle.std.proofs.Common.{◌≡◌, take}
-use Rattle.mp_mexpr.proofs.value.+copy.Given as goal
-
-abbrev pub invariant-copy_all-loop-value : goal.invariant-copy_all-loop-value
-invariant-copy_all-loop-value l = l.copies ≡ take l.value-index l.values
