@@ -140,8 +140,7 @@ pub place_then : (t n : ℕ) (s : System) (b : Blocks) (row column : ℕ) → bl
     → (row - 1) / n ≤ (column - 1) / n + 1 → IsTrue (nat_le ((column - 1) / n) ((row - 1) / n + 1)) ↔ IsPlace b row column
 unfolding blocks_of
 place_then t n s b row column e r c rl cl h =
-    let z : n ≡ b.size = ap (λ (x : Blocks). x.size) e in
-    (
+    let z : n ≡ b.size = ap (λ (x : Blocks). x.size) e in (
       λ p. record {
         from = (r, c);
         within = (rl, cl);

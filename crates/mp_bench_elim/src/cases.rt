@@ -20,22 +20,28 @@ pub(crate) enum Pattern {
 }
 
 /// Puts an entry where the band has its place.
-pub(crate) fn put(band: &mut Band, row: u32, column: u32, units: i128)
+pub(crate) fn put(band: &mut Band, row: u32, column: u32, value: Fix)
     requires shape { IsInShape band.old }
     ensures shape { IsInShape band.new }
     ensures count { count_of band.new ≡ count_of band.old }
 {
-    if !band.has_place(row, column) {
-        return;
+    if band.has_place(row, column) {
+        band.put(row, column, value);
     }
+}
+
+fn put_units(band: &mut Band, row: u32, column: u32, units: i128)
+    requires shape { IsInShape band.old }
+    ensures shape { IsInShape band.new }
+    ensures count { count_of band.new ≡ count_of band.old }
+{
     match Fix::of_units(units) {
-        Ok(value) => band.put(row, column, value),
+        Ok(value) => put(band, row, column, value),
         Err(_) => {}
     }
 }
 
-/// Puts the right side of a row.
-pub(crate) fn put_right(band: &mut Band, row: u32, units: i128)
+fn put_right(band: &mut Band, row: u32, units: i128)
     requires shape { IsInShape band.old }
     requires from { 1 ≤ row }
     requires row { row ≤ count_of band.old }
@@ -62,7 +68,7 @@ fn fill_row(band: &mut Band, row: u32, size: u32)
 {
     let reach = size.saturating_mul(2);
     for column in row.saturating_sub(reach)..row.saturating_add(reach) {
-        put(band, row, column, value_at(row, column));
+        put_units(band, row, column, value_at(row, column));
     }
 }
 
@@ -71,15 +77,15 @@ fn fill_near(band: &mut Band, row: u32, size: u32)
     ensures shape { IsInShape band.new }
     ensures count { count_of band.new ≡ count_of band.old }
 {
-    put(band, row, row, 1_000_000_000_000);
-    put(band, row, row.saturating_add(1), -50_000_000_000);
-    put(band, row, row.saturating_sub(size), -400_000_000_000);
-    put(band, row, row.saturating_add(size), -5_000_000_000);
+    put_units(band, row, row, 1_000_000_000_000);
+    put_units(band, row, row.saturating_add(1), -50_000_000_000);
+    put_units(band, row, row.saturating_sub(size), -400_000_000_000);
+    put_units(band, row, row.saturating_add(size), -5_000_000_000);
     if row % 3 == 0 {
-        put(band, row, row.saturating_sub(1), -20_000_000_000);
+        put_units(band, row, row.saturating_sub(1), -20_000_000_000);
     }
     if row % 5 == 0 {
-        put(
+        put_units(
             band,
             row,
             row.saturating_sub(size).saturating_add(1),
@@ -179,7 +185,7 @@ fn fill_apart(band: &mut Band)
     ensures count { count_of band.new ≡ count_of band.old }
 {
     for at in 0..band.count() {
-        put(band, at + 1, at + 1, 2 * ONE);
+        put_units(band, at + 1, at + 1, 2 * ONE);
         put_right(band, at + 1, 4 * ONE);
     }
 }
@@ -192,9 +198,9 @@ fn chain_row(band: &mut Band, row: u32)
     ensures shape { IsInShape band.new }
     ensures count { count_of band.new ≡ count_of band.old }
 {
-    put(band, row, row, 2 * ONE);
+    put_units(band, row, row, 2 * ONE);
     if row > 20 {
-        put(band, row, row - 20, ONE);
+        put_units(band, row, row - 20, ONE);
         put_right(band, row, 3 * ONE);
     } else {
         put_right(band, row, 2 * ONE);

@@ -1,31 +1,56 @@
 // The systems of a text.
-ghost use Rattle.std.specs.Prelude.{◌≡◌, ◌*◌, ◌<◌, ◌≤◌};
+ghost use Rattle.std.specs.Prelude.{◌≡◌, ◌*◌, ◌<◌, ◌≤◌, length};
+ghost use Rattle.mp_elim.specs.Shape.{IsSquare};
 ghost use Rattle.mp_band.specs.Blocks.{count_of, IsInShape};
 
-use crate::cases::{put, put_right};
+use crate::cases::put;
 use anyhow::{Context, Result, bail};
 use mp_band::Band;
 use mp_base::{Op, Steps};
+use mp_dense::{Column, Matrix, is_square, solve};
 use mp_elim::ElimFault;
 use mp_fix::Fix;
+use std::alloc::Global;
 use std::str::SplitWhitespace;
 use std::sync::ledger::Ledger;
 
-fn next(words: &mut SplitWhitespace) -> Result<i128> {
-    Ok(
-        words
-            .next()
-            .context("the text ends early")?
-            .parse::<i128>()?,
-    )
+fn next(words: &mut SplitWhitespace) -> Result<Fix> {
+    let units = words
+        .next()
+        .context("the text ends early")?
+        .parse::<i128>()?;
+    match Fix::of_units(units) {
+        Ok(value) => Ok(value),
+        Err(_) => bail!("past the limit"),
+    }
 }
 
 fn next_count(words: &mut SplitWhitespace) -> Result<u32> {
     Ok(words.next().context("the text ends early")?.parse::<u32>()?)
 }
 
-/// Eliminates each system of a text: how many there are, and for each its periods, the rows of one, the threshold, all
-/// entries by rows and the right sides, in units.
+fn next_column(alloc: Global, count: u32, words: &mut SplitWhitespace) -> Result<Column> {
+    let mut column = Column::new(alloc);
+    for _ in 0..count {
+        if column.add(next(words)?).is_err() {
+            bail!("no memory");
+        }
+    }
+    Ok(column)
+}
+
+fn next_matrix(alloc: Global, count: u32, words: &mut SplitWhitespace) -> Result<Matrix> {
+    let mut matrix = Matrix::new(alloc);
+    for _ in 0..count {
+        if matrix.add(next_column(alloc, count, words)?).is_err() {
+            bail!("no memory");
+        }
+    }
+    Ok(matrix)
+}
+
+/// Eliminates each system of a text, as a matrix and as a band: how many there are, and for each its periods, the rows
+/// of one, the threshold, all entries by rows and the right sides, in units.
 pub(crate) fn eliminate_all<L: Ledger>(
     rt: &(impl Print + AllocGlobal),
     text: &str,
@@ -45,63 +70,66 @@ fn eliminate_next<L: Ledger>(
 ) -> Result<()> {
     let periods = next_count(words)?;
     let size = next_count(words)?;
-    if periods.checked_mul(size).is_none() {
+    let Some(count) = periods.checked_mul(size) else {
         bail!("too many rows");
-    }
-    let Ok(threshold) = Fix::of_units(next(words)?) else {
-        bail!("no threshold");
     };
+    let threshold = next(words)?;
+    let a = next_matrix(rt.alloc(), count, words)?;
+    let b = next_column(rt.alloc(), count, words)?;
+    if !is_square(&a, &b) || a.len() != count as usize {
+        bail!("not square");
+    }
+    match solve(rt.alloc(), &a, &b, threshold, steps) {
+        Ok(x) => tell_column(rt, &x)?,
+        Err(fault) => tell_fault(rt, fault)?,
+    }
     let mut band = match Band::with_shape(rt.alloc(), periods, size) {
         Ok(band) => band,
         Err(_) => bail!("no memory"),
     };
-    read_rows(&mut band, words)?;
-    read_rights(&mut band, words)?;
+    fill(&mut band, &a, &b);
     match band.eliminate(threshold, steps) {
-        Ok(()) => tell_answers(rt, &band),
+        Ok(()) => tell_band(rt, &band),
         Err(fault) => tell_fault(rt, fault),
     }
 }
 
-fn read_rows(band: &mut Band, words: &mut SplitWhitespace) -> Result<()>
+fn fill(band: &mut Band, a: &Matrix, b: &Column)
+    requires square { IsSquare a.now b.now }
+    requires count { length a.now ≡ count_of band.old }
     requires shape { IsInShape band.old }
     ensures shape { IsInShape band.new }
     ensures count { count_of band.new ≡ count_of band.old }
 {
-    for at in 0..band.count() {
-        read_row(band, at + 1, words)?;
+    for i in 0..band.count() {
+        fill_row(band, i + 1, a.row(i as usize));
+        band.put_right(i + 1, b.get(i as usize));
     }
-    Ok(())
 }
 
-fn read_rights(band: &mut Band, words: &mut SplitWhitespace) -> Result<()>
+fn fill_row(band: &mut Band, row: u32, entries: &Column)
+    requires count { length entries.now ≡ count_of band.old }
     requires shape { IsInShape band.old }
     ensures shape { IsInShape band.new }
     ensures count { count_of band.new ≡ count_of band.old }
 {
-    for at in 0..band.count() {
-        let value = next(words)?;
-        put_right(band, at + 1, value);
+    for k in 0..band.count() {
+        put(band, row, k + 1, entries.get(k as usize));
     }
-    Ok(())
 }
 
-fn read_row(band: &mut Band, row: u32, words: &mut SplitWhitespace) -> Result<()>
-    requires shape { IsInShape band.old }
-    ensures shape { IsInShape band.new }
-    ensures count { count_of band.new ≡ count_of band.old }
-{
-    for column in 0..band.count() {
-        let value = next(words)?;
-        put(band, row, column + 1, value);
-    }
-    Ok(())
-}
-
-fn tell_answers(rt: &impl Print, band: &Band) -> Result<()> {
+fn tell_column(rt: &impl Print, x: &Column) -> Result<()> {
     println!(rt; "solved")?;
-    for column in 0..band.count() {
-        println!(rt; "{}", band.answer(column + 1).units())?;
+    for i in 0..x.len() {
+        println!(rt; "{}", x.get(i).units())?;
+    }
+    Ok(())
+}
+
+fn tell_band(rt: &impl Print, band: &Band) -> Result<()> {
+    println!(rt; "solved")?;
+    for at in 0..band.count() {
+        println!(rt; "{}", band.answer(at + 1).units())?;
     }
     Ok(())
 }

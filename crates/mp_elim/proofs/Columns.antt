@@ -72,7 +72,7 @@ pub record Partly (past j i : ℕ) (s t : System) : Type 0 where
   pub gone : (r : ℕ) → j < r → r < i → t.at r j ≡ pos 0
   pub small : IsSmall s → IsSmall t
 
-partly_more : (past j i : ℕ) (s t u : System) → j < past → Partly past j i s t → cleared past j i t ≡ Ok u → Partly past j (i + 1) s u
+pub partly_more : (past j i : ℕ) (s t u : System) → j < past → Partly past j i s t → cleared past j i t ≡ Ok u → Partly past j (i + 1) s u
 partly_more past j i s t u l p h =
     let b = p.behind in
     let d = cleared_loses past j i t u l h in

@@ -4,3 +4,5 @@ pub mod Rows
 pub mod Columns
 pub mod Band
 pub mod Lists
+pub mod Quotients
+pub mod Refusals

@@ -78,3 +78,19 @@ each_down_same f g P zero same keep s p = refl
 each_down_same f g P (suc n) same keep s p =
     rw (same n s (omega arith) p) (and_then_same (g n s) (λ t. each_down f n t) (λ t. each_down g n t)
     (λ t h. each_down_same f g P n (λ i u l q. same i u (omega arith) q) (λ i u v l q k. keep i u v (omega arith) q k) t (keep n s t (omega arith) p h)))
+
+-- what holds of the fault of each step holds of that of the walk
+pub and_then_fault : {A B E : Type 0} (Q : E → Type 0) (r : Result A E) (f : A → Result B E) → ((e : E) → r ≡ Err e → Q e) → ((x : A) (e : E) → f x ≡ Err e → Q e)
+    → (e : E) → and_then r f ≡ Err e → Q e
+and_then_fault Q (Ok x) f h k e p = k x e p
+and_then_fault Q (Err d) f h k e p = h e cc
+
+pub each_fault : {S E : Type 0} (Q : E → Type 0) (step : ℕ → S → Result S E) → ((i : ℕ) (s : S) (e : E) → step i s ≡ Err e → Q e)
+    → (n i : ℕ) (s : S) (e : E) → each step i n s ≡ Err e → Q e
+each_fault Q step h zero i s e p = cc
+each_fault Q step h (suc n) i s e p = and_then_fault Q (step i s) (λ t. each step (i + 1) n t) (h i s) (λ t. each_fault Q step h n (i + 1) t) e p
+
+pub each_down_fault : {S E : Type 0} (Q : E → Type 0) (step : ℕ → S → Result S E) → ((i : ℕ) (s : S) (e : E) → step i s ≡ Err e → Q e)
+    → (n : ℕ) (s : S) (e : E) → each_down step n s ≡ Err e → Q e
+each_down_fault Q step h zero s e p = cc
+each_down_fault Q step h (suc n) s e p = and_then_fault Q (step n s) (λ t. each_down step n t) (h n s) (λ t. each_down_fault Q step h n t) e p
