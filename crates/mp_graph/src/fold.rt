@@ -1,10 +1,10 @@
 // A pass that gives each node a row of a table.
-ghost use Rattle.std.specs.Prelude.{◌≡◌, ◌<◌, ◌≤◌, ℕ, length, IfOk, IfErr};
+ghost use Rattle.std.specs.Prelude.{◌≡◌, ◌<◌, ◌≤◌, length, slice_get, Some, IfOk, IfErr};
 ghost use Rattle.mp_semantics.specs.Term.{Term};
 ghost use Rattle.mp_graph.specs.Shared.{term_at};
 ghost use Rattle.mp_graph.specs.Images.{HasRows};
 ghost use Rattle.mp_graph.specs.Own.{AreOwn};
-ghost use Rattle.mp_graph.specs.Part.{IsIn, IsPart};
+ghost use Rattle.mp_graph.specs.Part.{IsIn};
 
 use crate::graph::Graph;
 use crate::node_id::NodeId;
@@ -33,23 +33,14 @@ pub trait Fold {
         requires rows { HasRows graph.now.terms rows.now id (is_row self.now) }
         ensures row { IfOk result (λ r. is_row self.now (term_at graph.now.terms id) r) }
         ensures fault { IfErr result (λ f. is_fault self.now (term_at graph.now.terms id) f) };
+}
 
-    /// The row of this operand of a node, from the table that `row` has.
-    final fn kid_row(
-        &self,
-        graph: &Graph<'_>,
-        rows: &[Self::Row],
-        kid: NodeId,
-        of: NodeId,
-    ) -> Self::Row
-        requires below { kid < of }
-        requires table { of ≤ length rows.now }
-        requires part { IsPart (term_at graph.now.terms kid) (term_at graph.now.terms of) }
-        requires rows { HasRows graph.now.terms rows.now of (is_row self.now) }
-        ensures { is_row self.now (term_at graph.now.terms kid) result }
-    {
-        rows[kid.index()]
-    }
+/// The row that the table has for this node.
+pub fn row_at<R: Copy>(rows: &[R], id: NodeId) -> R
+    requires { id < length rows.now }
+    ensures { slice_get rows.now id ≡ Some result }
+{
+    rows[id.index()]
 }
 
 /// The row of this node, whose own nodes are given, or the fault of one of them. Each of them is asked for once. The

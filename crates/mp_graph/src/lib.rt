@@ -11,7 +11,7 @@ pub mod own;
 pub mod rewrite;
 pub mod tree;
 
-pub use fold::{Fold, folded};
+pub use fold::{Fold, folded, row_at};
 pub use graph::{Graph, Ref};
 pub use names::{NameId, Names};
 pub use node_id::NodeId;

@@ -3,6 +3,5 @@
 
 pub mod depth;
 pub mod opposite;
-
 #[cfg(test)]
 mod tests;

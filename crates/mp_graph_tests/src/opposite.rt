@@ -31,11 +31,7 @@ impl Rewrite for Opposite {
 }
 
 // The node with its operands replaced by their images, or a leaf negated.
-fn opposite_node(
-    graph: &mut Graph<'_>,
-    id: NodeId,
-    images: &[NodeId],
-) -> Result<NodeId, NoMemory>
+fn opposite_node(graph: &mut Graph<'_>, id: NodeId, images: &[NodeId]) -> Result<NodeId, NoMemory>
     requires within { id < length graph.old.terms }
     requires table { id ≤ length images.now }
     requires images { HasImages graph.old images.now id opposite }
