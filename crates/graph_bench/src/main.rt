@@ -1,0 +1,96 @@
+//! Builds equations in one graph, and negates the leaves of each. The words: how many equations, how many sums in
+//! each, and a third one if the leaves are to be negated.
+#![tactic(auto)]
+
+ghost use Rattle.std.specs.Prelude.{◌≡◌, ◌<◌, ◌≤◌, length, IfOk, OnOk};
+ghost use Rattle.std.specs.List.{AllByRecursion};
+
+use mp_base::NoMemory;
+use mp_graph::{BinaryOp, Graph, LeafOp, Names, NodeId, NodeOp, rewritten};
+use mp_graph_tests::opposite::Opposite;
+use std::alloc::Global;
+use std::{env, io};
+
+// A number that no other pair has.
+fn number(graph: &mut Graph<'_>, equation: u32, place: u32) -> Result<NodeId, NoMemory>
+    ensures within { IfOk result (λ id. id < length graph.new.terms) }
+    ensures longer { OnOk result (length graph.old.terms ≤ length graph.new.terms) }
+{
+    let m = u128::from(equation) * 4294967296 + u128::from(place);
+    graph.intern(NodeOp::Leaf(LeafOp::Num { m, s: 0 }), &[])
+}
+
+// A sum of numbers, with so many operators.
+fn chain(graph: &mut Graph<'_>, equation: u32, sums: u32) -> Result<NodeId, NoMemory>
+    ensures within { IfOk result (λ id. id < length graph.new.terms) }
+    ensures longer { OnOk result (length graph.old.terms ≤ length graph.new.terms) }
+{
+    let mut sum = number(graph, equation, sums)?;
+    'sums: for place in 0..sums {
+        let next = number(graph, equation, place)?;
+        sum = graph.intern(NodeOp::Binary(BinaryOp::Add), &[sum, next])?;
+    }
+    Ok(sum)
+}
+
+// So many equations.
+fn chains(
+    alloc: Global,
+    graph: &mut Graph<'_>,
+    equations: u32,
+    sums: u32,
+) -> Result<Vec<NodeId>, NoMemory>
+    ensures { IfOk result (λ roots. AllByRecursion (λ r. r < length graph.new.terms) roots.items) }
+{
+    let mut roots = Vec::new(alloc);
+    'equations: for equation in 0..equations {
+        let root = chain(graph, equation, sums)?;
+        let Ok(()) = roots.push(root) else {
+            return Err(NoMemory);
+        };
+    }
+    Ok(roots)
+}
+
+// Negates the leaves of each.
+fn negated(alloc: Global, graph: &mut Graph<'_>, roots: &[NodeId]) -> Result<(), NoMemory>
+    requires { AllByRecursion (λ r. r < length graph.old.terms) roots.now }
+{
+    let mut images = Vec::new(alloc);
+    'roots: for root in roots {
+        let own = graph.own_nodes(alloc, *root)?;
+        images.resize(graph.nodes(), *root)?;
+        let _ = rewritten(graph, *root, &own, &mut images, &Opposite)?;
+    }
+    Ok(())
+}
+
+// The number that this word is, or 0.
+fn read(word: Option<String>) -> u32 {
+    match word {
+        Some(word) => word.parse::<u32>().unwrap_or(0),
+        None => 0,
+    }
+}
+
+fn main(rt: HostRuntime) -> io::Result<()> {
+    let alloc = rt.alloc();
+    let mut words = env::args(&rt)?.skip(1);
+    let equations = read(words.next());
+    let sums = read(words.next());
+    let names = Names::new(Vec::new(alloc), Vec::new(alloc), Vec::new(alloc));
+    let mut graph = Graph::new(alloc, names);
+    let Ok(roots) = chains(alloc, &mut graph, equations, sums) else {
+        return println!(rt; "no memory");
+    };
+    let nodes = graph.nodes();
+    println!(rt; "nodes {nodes}")?;
+    if words.next().is_some() {
+        let Ok(()) = negated(alloc, &mut graph, &roots) else {
+            return println!(rt; "no memory");
+        };
+        let nodes = graph.nodes();
+        println!(rt; "nodes {nodes}")?;
+    }
+    Ok(())
+}

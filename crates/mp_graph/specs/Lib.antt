@@ -1,0 +1,10 @@
+pub mod Code
+pub mod Images
+pub mod Kids
+pub mod Names
+pub mod Naming
+pub mod Nodes
+pub mod Op
+pub mod Own
+pub mod Part
+pub mod Shared
