@@ -4,7 +4,7 @@ ghost use Rattle.std.specs.Prelude.{◌≡◌, ◌≤◌, ◌-◌, ◌+◌, ◌^
 ghost use Rattle.std.specs.List.{flat_map};
 ghost use Rattle.mp_tokens.specs.Tokens.{Tok};
 ghost use Rattle.mp_statements.specs.Statements.{Statement};
-ghost use Rattle.mp_syntax.specs.Grammar.{Reads};
+ghost use Rattle.mp_grammar.specs.Grammar.{ReadsFile};
 ghost use Rattle.mp_file.specs.Shown.{atom_of, factor_of, product_of, expr_of, item_of, file_of};
 ghost use Rattle.mp_declared.specs.Sides.{sides, right_side};
 ghost use Rattle.mp_declared.specs.Heights.{height, greatest, greatest_height};
@@ -30,7 +30,7 @@ pub fn greatest_height(file: &File) -> u64
 /// No side of an equation is higher than its file has tokens, so that a file of less than 2^64 tokens has its height told
 /// exactly.
 pub fn heights_law()
-    ensures { (ts : List Tok) (file : List Statement) → Reads ts file → greatest_height file ≤ length ts }
+    ensures { (ts : List Tok) (file : List Statement) → ReadsFile ts file → greatest_height file ≤ length ts }
 {}
 
 // The greatest height of a side of these equations.

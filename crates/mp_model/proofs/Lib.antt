@@ -1,4 +1,3 @@
-pub mod Places
 pub mod Kept
 pub mod Examples
-pub mod Texts
+pub mod Printed

@@ -2,10 +2,12 @@
 use Rattle.std.specs.Prelude.{ℕ, pos, negsuc, List, [], ◌∷◌, Some, None, codes}
 use Rattle.mp_rational.specs.Fraction.{ratio_of}
 use Rattle.mp_syntax.specs.declared.operator.Sign.TheVariants as sign
+use Rattle.mp_syntax.specs.declared.operator.Operator.TheVariants as o
 use Rattle.mp_statements.specs.declared.kind.NameKind.TheVariants as kind
-use Rattle.mp_syntax.specs.Syntax.{Shift, Named, Expr, Number, Variable, Plus, Times, Over, Power, Paren}
+use Rattle.mp_syntax.specs.Syntax.{Shift, Named, Expr, Number, Variable, Binary, Power, Paren}
 use Rattle.mp_statements.specs.Statements.{Statement, Declares, Assigns, Model}
-use Rattle.mp_semantics.specs.Term.{endogenous, exogenous, number, variable, plus, times, power_of}
+use Rattle.mp_semantics.specs.Term as term
+use Rattle.mp_semantics.specs.Term.{Term, endogenous, exogenous, number, variable, plus, times, leaf, power_of}
 use Rattle.mp_semantics.specs.Model as m
 
 abbrev pub x_at : ℕ → Named
@@ -29,25 +31,29 @@ values_text =
 
 -- `1/2`
 abbrev pub half : Expr
-half = Over (Number (codes "1") 35) 36 (Number (codes "2") 37)
+half = Binary o.Over (Number (codes "1") 35) 36 (Number (codes "2") 37)
 
 -- `a+1`
 abbrev pub one_more : Expr
-one_more = Plus (Variable (a_at 44) None) 45 (Number (codes "1") 46)
+one_more = Binary o.Plus (Variable (a_at 44) None) 45 (Number (codes "1") 46)
 
 -- `a*2`
 abbrev pub twice : Expr
-twice = Times (Variable (a_at 71) None) 72 (Number (codes "2") 73)
+twice = Binary o.Times (Variable (a_at 71) None) 72 (Number (codes "2") 73)
 
 -- `(2*x(-1))^(a*2)+e`
 abbrev pub powered : Expr
 powered =
-    Plus (Power (Paren (Times (Number (codes "2") 61) 62 (Variable (x_at 63) (Some back)))) 69 None (Paren twice)) 75 (Variable (e_at 76) None)
+    Binary o.Plus (Power (Paren (Binary o.Times (Number (codes "2") 61) 62 (Variable (x_at 63) (Some back)))) 69 None (Paren twice)) 75 (Variable (e_at 76) None)
 
 -- the file that the text reads as
 abbrev pub values_file : List Statement
 values_file =
     Declares kind.Endogenous (x_at 4 ∷ []) ∷ Declares kind.Exogenous (e_at 14 ∷ []) ∷ Declares kind.Parameter (a_at 28 ∷ []) ∷ Assigns (a_at 31) half ∷ Assigns (a_at 40) one_more ∷ Model 49 (record { left = Variable (x_at 56) None; right = Some powered } ∷ []) ∷ []
+
+-- x in the period before, doubled
+abbrev pub doubled : Term
+doubled = term.binary times (leaf (number 2 0)) (leaf (variable (endogenous 0) (negsuc 0)))
 
 -- its model: the parameter is worth 3/2 at last, and the exponent is 3
 abbrev pub values_model : m.Model
@@ -55,7 +61,7 @@ values_model = record {
   endogenous_names = codes "x" ∷ [];
   exogenous_names = codes "e" ∷ [];
   parameters = record { name = codes "a"; value = ratio_of (pos 3) 2 } ∷ [];
-  equations = record { left = variable (endogenous 0) (pos 0); right = plus (power_of (times (number 2 0) (variable (endogenous 0) (negsuc 0))) (pos 3)) (variable (exogenous 0) (pos 0)); name = None; bind = []; relax = [] } ∷ [];
+  equations = record { left = leaf (variable (endogenous 0) (pos 0)); right = term.binary plus (power_of doubled (pos 3)) (leaf (variable (exogenous 0) (pos 0))); name = None; pair = None; bind = []; relax = [] } ∷ [];
   constraints = [];
 }
 
@@ -69,7 +75,7 @@ values_printed =
 -- the file, as it is read
 abbrev pub doubling_file : List Statement
 doubling_file =
-    Declares kind.Endogenous (x_at 4 ∷ []) ∷ Model 7 (record { left = Variable (x_at 14) None; right = Some (Times (Number (codes "2") 18) 19 (Variable (x_at 20) (Some back))) } ∷ []) ∷ []
+    Declares kind.Endogenous (x_at 4 ∷ []) ∷ Model 7 (record { left = Variable (x_at 14) None; right = Some (Binary o.Times (Number (codes "2") 18) 19 (Variable (x_at 20) (Some back))) } ∷ []) ∷ []
 
 -- its model: one variable, and one equation that is always in force
 abbrev pub doubling_model : m.Model
@@ -77,6 +83,6 @@ doubling_model = record {
   endogenous_names = codes "x" ∷ [];
   exogenous_names = [];
   parameters = [];
-  equations = record { left = variable (endogenous 0) (pos 0); right = times (number 2 0) (variable (endogenous 0) (negsuc 0)); name = None; bind = []; relax = [] } ∷ [];
+  equations = record { left = leaf (variable (endogenous 0) (pos 0)); right = doubled; name = None; pair = None; bind = []; relax = [] } ∷ [];
   constraints = [];
 }

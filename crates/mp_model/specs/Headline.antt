@@ -2,7 +2,7 @@
 use Rattle.std.specs.Prelude.{◌≡◌, ℕ, List, Ok, Some}
 use Rattle.mp_tokens.specs.Tokens.{Tok, tokens}
 use Rattle.mp_statements.specs.Statements.{Statement}
-use Rattle.mp_syntax.specs.Grammar.{Reads}
+use Rattle.mp_grammar.specs.Grammar.{ReadsFile}
 use Rattle.mp_semantics.specs.Model.{Model}
 use Rattle.mp_semantics.specs.Solves.{HaveSameSolutions}
 use Rattle.mp_values.specs.ModelOf.{model_of}
@@ -14,8 +14,8 @@ pub record KeepsSolutions (file : List Statement) (written : List ℕ) : Type 0 
   pub again_tokens : List Tok
   pub again : List Statement
   pub lexed : tokens written ≡ Ok again_tokens
-  pub reads : Reads again_tokens again
-  pub only : (other : List Statement) → Reads again_tokens other → other ≡ again
+  pub reads : ReadsFile again_tokens again
+  pub only : (other : List Statement) → ReadsFile again_tokens other → other ≡ again
   pub printed : Model
   pub means_again : model_of again ≡ Some printed
   pub same : printed ≡ source

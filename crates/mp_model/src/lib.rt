@@ -5,47 +5,37 @@
 ghost use Rattle.std.specs.Prelude.{◌≡◌, ◌↔◌, ℕ, ◌≤◌, List, [], ◌∷◌, Some, Ok, pos};
 ghost use Rattle.mp_tokens.specs.Tokens.{Tok, tokens};
 ghost use Rattle.mp_statements.specs.Statements.{Statement};
-ghost use Rattle.mp_syntax.specs.Grammar.{Reads};
+ghost use Rattle.mp_grammar.specs.Grammar.{ReadsFile};
 ghost use Rattle.mp_declared.specs.Heights.{greatest_height};
 ghost use Rattle.mp_rational.specs.Fraction.{mul, ratio_of};
 ghost use Rattle.mp_semantics.specs.Term.{endogenous};
 ghost use Rattle.mp_semantics.specs.Model.{Model};
 ghost use Rattle.mp_semantics.specs.Solves.{Boundary, Path, IsSolution};
-ghost use Rattle.mp_spelling.specs.Back.{bare_file};
-ghost use Rattle.mp_spelling.specs.Printed.{printed_model};
-ghost use Rattle.mp_values.specs.ModelOf.{model_of};
-ghost use Rattle.mp_values.specs.Folded.{model_given};
+ghost use Rattle.mp_canonical.specs.Files.{canonical_text};
+ghost use Rattle.mp_values.specs.ModelOf.{model_given, model_of};
 ghost use Rattle.mp_model.specs.Headline.{KeepsSolutions};
 ghost use Rattle.mp_model.specs.Example.{values_text, values_file, values_model, values_printed, doubling_file, doubling_model};
-
-/// Places do not tell models apart.
-pub fn model_law()
-    ensures { (file again : List Statement) → bare_file again ≡ bare_file file → model_of again ≡ model_of file }
-{}
 
 /// For each text with tokens that read as a file with a model, where the limits of numbers refuse nothing and no side
 /// of an equation is higher than 500, a path solves the printed model exactly when it solves what was read.
 pub fn headline_law()
     ensures { (text : List ℕ) (ts : List Tok) (file : List Statement) (M : Model)
-        → tokens text ≡ Ok ts → Reads ts file → model_given file ≡ Ok M → greatest_height file ≤ 500
-        → KeepsSolutions file (printed_model M) }
+        → tokens text ≡ Ok ts → ReadsFile ts file → model_given file ≡ Ok M → greatest_height file ≤ 500
+        → KeepsSolutions file (canonical_text M) }
 {
-    mp_reading::grammar_law();
-    mp_spelling::written_law();
-    mp_spelling::file_back_law();
     mp_semantics::solution_law();
     mp_values::limits_law();
-    mp_written::printed_law();
+    mp_canonical::canonical_law();
+    mp_canonical::printable_law();
 }
 
 /// What `var x; varexo e; parameters a; a = 1/2; a = a+1; model; x = (2*x(-1))^(a*2)+e; end;` reads as and means, and
 /// how its model is printed: a is 3/2 at last, and the exponent is 3.
 pub fn example_law()
-    ensures reads { (ts : List Tok) × (tokens values_text ≡ Ok ts) × Reads ts values_file }
+    ensures reads { (ts : List Tok) × (tokens values_text ≡ Ok ts) × ReadsFile ts values_file }
     ensures model { model_of values_file ≡ Some values_model }
-    ensures printed { printed_model values_model ≡ values_printed }
+    ensures printed { canonical_text values_model ≡ values_printed }
 {
-    mp_reading::grammar_law();
     mp_rational::field_laws();
     mp_rational::ratio_laws();
     mp_rational::lowest_terms_laws();

@@ -4,7 +4,7 @@ use Rattle.std.specs.Fmt.{digit_glyph, digits, digits_onto, decimal}
 use Rattle.std.proofs.lemmas.Bool.{cases_lt}
 use borrow.Author.Tests.{eq-eqb, ne_eqb}
 use Rattle.std.proofs.Math.Logic.{⊎_elim}
-use Rattle.mp_spelling.specs.Printed.{decimal_digits}
+use Rattle.mp_canonical.specs.Numbers.{decimal_digits}
 
 abbrev spell : ℕ → ℕ → List ℕ → List ℕ
 spell k n acc = digits_onto k 10 false n acc

@@ -6,6 +6,3 @@ pub mod number;
 pub mod tree;
 
 pub use model::print_model;
-
-#[cfg(test)]
-mod tests;

@@ -1,24 +1,28 @@
 // The text of a model.
-ghost use Rattle.std.specs.Prelude.{◌≡◌, ◌++◌, map, codes, OnOk, IfOk};
+ghost use Rattle.std.specs.Prelude.{◌≡◌, ◌++◌, map, OnOk, IfOk};
 ghost use Rattle.std.specs.List.{flat_map};
+ghost use Rattle.mp_statements.specs.declared.kind.NameKind.TheVariants as kind;
 ghost use Rattle.mp_model_data.specs.Shown.{parameter_of, equation_of, model_data};
-ghost use Rattle.mp_spelling.specs.Printed.{names_of, names_line, value_line, equation_line, model_block, printed_model};
+ghost use Rattle.mp_canonical.specs.Printable.{model_names};
+ghost use Rattle.mp_canonical.specs.Files.{names_part, value_part, equation_part, equations_part, canonical_text};
+ghost use Rattle.mp_canonical.specs.Spelled.{item_text, kind_word, name_text, statement_text, lines_of};
 ghost use Rattle.mp_print_model.specs.Parts.{parameter_names};
 
 use crate::number::put_fraction;
 use crate::tree::put_tree;
 use mp_base::{Bytes, NoMemory};
 use mp_model_data::{Model, Parameter, Sides};
+use mp_statements::NameKind;
 use std::alloc::Global;
 
 /// The canonical text of a model: its names, the values of its parameters, and its equations, each part where it has
 /// content and each equation on a line of its own. It reads back to the model. The layout is modpath's own.
 pub fn print_model(alloc: Global, model: &Model) -> Result<Bytes, NoMemory>
-    ensures { IfOk result (λ text. text ≡ printed_model (model_data model.now)) }
+    ensures { IfOk result (λ text. text ≡ canonical_text (model_data model.now)) }
 {
     let mut out = Bytes::new(alloc);
-    put_names(&mut out, b"var", model.endogenous_names())?;
-    put_names(&mut out, b"varexo", model.exogenous_names())?;
+    put_names(&mut out, NameKind::Endogenous, model.endogenous_names())?;
+    put_names(&mut out, NameKind::Exogenous, model.exogenous_names())?;
     put_parameters(&mut out, model.parameters())?;
     put_values(&mut out, model.parameters())?;
     put_equations(&mut out, model.equations(), model)?;
@@ -26,38 +30,63 @@ pub fn print_model(alloc: Global, model: &Model) -> Result<Bytes, NoMemory>
 }
 
 // The line that declares these names, if there are any.
-fn put_names(out: &mut Bytes, word: &[u8], names: &[&[u8]]) -> Result<(), NoMemory>
-    ensures { OnOk result (out.new ≡ out.old ++ names_line word.now (map (λ n. n.now) names.now)) }
+fn put_names(out: &mut Bytes, kind: NameKind, names: &[&[u8]]) -> Result<(), NoMemory>
+    ensures { OnOk result (out.new ≡ out.old ++ lines_of (names_part kind (map (λ n. n.now) names.now))) }
 {
     if names.is_empty() {
         return Ok(());
     }
-    out.add(word)?;
+    put_kind(out, kind)?;
+    put_each(out, names)?;
+    out.add(b";\n")
+}
+
+// The word that begins a declaration.
+fn put_kind(out: &mut Bytes, kind: NameKind) -> Result<(), NoMemory>
+    ensures { OnOk result (out.new ≡ out.old ++ kind_word kind) }
+{
+    match kind {
+        NameKind::Endogenous => out.add(b"var"),
+        NameKind::Exogenous => out.add(b"varexo"),
+        NameKind::Parameter => out.add(b"parameters"),
+    }
+}
+
+fn put_each(out: &mut Bytes, names: &[&[u8]]) -> Result<(), NoMemory>
+    ensures { OnOk result (out.new ≡ out.old ++ flat_map name_text (map (λ n. n.now) names.now)) }
+{
     'turns: for name in names {
         out.add(b" ")?;
         out.add(name)?;
     }
-    out.add(b";\n")
+    Ok(())
 }
 
 // The line that declares the parameters, if there are any.
 fn put_parameters(out: &mut Bytes, parameters: &[Parameter]) -> Result<(), NoMemory>
-    ensures { OnOk result (out.new ≡ out.old ++ names_line (codes "parameters") (parameter_names parameters.now)) }
+    ensures { OnOk result (out.new ≡ out.old ++ lines_of (names_part kind.Parameter (parameter_names parameters.now))) }
 {
     if parameters.is_empty() {
         return Ok(());
     }
-    out.add(b"parameters")?;
+    put_kind(out, NameKind::Parameter)?;
+    put_each_parameter(out, parameters)?;
+    out.add(b";\n")
+}
+
+fn put_each_parameter(out: &mut Bytes, parameters: &[Parameter]) -> Result<(), NoMemory>
+    ensures { OnOk result (out.new ≡ out.old ++ flat_map name_text (parameter_names parameters.now)) }
+{
     'turns: for parameter in parameters {
         out.add(b" ")?;
         out.add(parameter.name)?;
     }
-    out.add(b";\n")
+    Ok(())
 }
 
 // The lines that give the parameters their values.
 fn put_values(out: &mut Bytes, parameters: &[Parameter]) -> Result<(), NoMemory>
-    ensures { OnOk result (out.new ≡ out.old ++ flat_map value_line (map parameter_of parameters.now)) }
+    ensures { OnOk result (out.new ≡ out.old ++ lines_of (map value_part (map parameter_of parameters.now))) }
 {
     'turns: for parameter in parameters {
         put_value(out, parameter)?;
@@ -66,7 +95,7 @@ fn put_values(out: &mut Bytes, parameters: &[Parameter]) -> Result<(), NoMemory>
 }
 
 fn put_value(out: &mut Bytes, parameter: &Parameter) -> Result<(), NoMemory>
-    ensures { OnOk result (out.new ≡ out.old ++ value_line (parameter_of parameter.now)) }
+    ensures { OnOk result (out.new ≡ out.old ++ statement_text (value_part (parameter_of parameter.now))) }
 {
     out.add(parameter.name)?;
     out.add(b" = ")?;
@@ -76,21 +105,28 @@ fn put_value(out: &mut Bytes, parameter: &Parameter) -> Result<(), NoMemory>
 
 // The model block, if there are equations.
 fn put_equations(out: &mut Bytes, equations: &[Sides], model: &Model) -> Result<(), NoMemory>
-    ensures { OnOk result (out.new ≡ out.old ++ model_block (names_of (model_data model.now)) (map equation_of equations.now)) }
+    ensures { OnOk result (out.new ≡ out.old ++ lines_of (equations_part (model_names (model_data model.now)) (map equation_of equations.now))) }
 {
     if equations.is_empty() {
         return Ok(());
     }
     out.add(b"model;\n")?;
+    put_each_equation(out, equations, model)?;
+    out.add(b"end;\n")
+}
+
+fn put_each_equation(out: &mut Bytes, equations: &[Sides], model: &Model) -> Result<(), NoMemory>
+    ensures { OnOk result (out.new ≡ out.old ++ flat_map item_text (map (equation_part (model_names (model_data model.now))) (map equation_of equations.now))) }
+{
     'turns: for sides in equations {
         put_equation(out, sides, model)?;
     }
-    out.add(b"end;\n")
+    Ok(())
 }
 
 // The line of an equation.
 fn put_equation(out: &mut Bytes, sides: &Sides, model: &Model) -> Result<(), NoMemory>
-    ensures { OnOk result (out.new ≡ out.old ++ equation_line (names_of (model_data model.now)) (equation_of sides.now)) }
+    ensures { OnOk result (out.new ≡ out.old ++ item_text (equation_part (model_names (model_data model.now)) (equation_of sides.now))) }
 {
     put_tree(out, &sides.left, model)?;
     out.add(b" = ")?;

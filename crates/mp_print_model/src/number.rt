@@ -1,7 +1,9 @@
 // The digits of numbers.
 ghost use Rattle.std.specs.Prelude.{◌≡◌, ◌+◌, ◌++◌, replicate, OnOk};
 ghost use Rattle.mp_frac.specs.Value.{value_of};
-ghost use Rattle.mp_spelling.specs.Printed.{decimal_digits, padded, pointed, printed_number, printed_shift, printed_exponent, signed_digits, printed_fraction};
+ghost use Rattle.mp_canonical.specs.Numbers.{decimal_digits, padded, pointed, number_text};
+ghost use Rattle.mp_canonical.specs.Terms.{canonical_shift, canonical_whole, canonical_exponent, canonical_value};
+ghost use Rattle.mp_canonical.specs.Spelled.{shift_text, spelled};
 
 use itoa::Buffer;
 use mp_base::{Bytes, NoMemory};
@@ -25,7 +27,7 @@ fn put_zeros(out: &mut Bytes, n: usize) -> Result<(), NoMemory>
 
 // The number m / 10^s with s places.
 pub(crate) fn put_number(out: &mut Bytes, m: u128, s: u8) -> Result<(), NoMemory>
-    ensures { OnOk result (out.new ≡ out.old ++ printed_number m s) }
+    ensures { OnOk result (out.new ≡ out.old ++ number_text m s) }
 {
     if s == 0 {
         put_digits(out, m)
@@ -52,7 +54,7 @@ fn put_places(out: &mut Bytes, digits: &[u8], places: usize) -> Result<(), NoMem
 
 // "(+k)" or "(-k)", and nothing for 0.
 pub(crate) fn put_shift(out: &mut Bytes, shift: i16) -> Result<(), NoMemory>
-    ensures { OnOk result (out.new ≡ out.old ++ printed_shift shift) }
+    ensures { OnOk result (out.new ≡ out.old ++ shift_text (canonical_shift shift)) }
 {
     if shift == 0 {
         return Ok(());
@@ -63,8 +65,9 @@ pub(crate) fn put_shift(out: &mut Bytes, shift: i16) -> Result<(), NoMemory>
 }
 
 // "k" or "(-k)".
+#[tactic(auto, unfolding(mp_canonical::specs::Spelled::spelled))]
 pub(crate) fn put_exponent(out: &mut Bytes, exponent: i8) -> Result<(), NoMemory>
-    ensures { OnOk result (out.new ≡ out.old ++ printed_exponent exponent) }
+    ensures { OnOk result (out.new ≡ out.old ++ spelled (canonical_exponent exponent)) }
 {
     if exponent >= 0 {
         return put_digits(out, exponent as u128);
@@ -75,8 +78,9 @@ pub(crate) fn put_exponent(out: &mut Bytes, exponent: i8) -> Result<(), NoMemory
 }
 
 // "n", or "n/d" in lowest terms, with "-" before it if it is negative.
+#[tactic(auto, unfolding(mp_canonical::specs::Spelled::spelled))]
 pub(crate) fn put_fraction(out: &mut Bytes, value: &Frac) -> Result<(), NoMemory>
-    ensures { OnOk result (out.new ≡ out.old ++ printed_fraction (value_of value.now)) }
+    ensures { OnOk result (out.new ≡ out.old ++ spelled (canonical_value (value_of value.now))) }
 {
     let parts = value.parts();
     put_signed(out, parts.n)?;
@@ -87,8 +91,9 @@ pub(crate) fn put_fraction(out: &mut Bytes, value: &Frac) -> Result<(), NoMemory
     put_digits(out, parts.d.unsigned_abs())
 }
 
+#[tactic(auto, unfolding(mp_canonical::specs::Spelled::spelled))]
 fn put_signed(out: &mut Bytes, n: i128) -> Result<(), NoMemory>
-    ensures { OnOk result (out.new ≡ out.old ++ signed_digits n) }
+    ensures { OnOk result (out.new ≡ out.old ++ spelled (canonical_whole n)) }
 {
     if n < 0 {
         out.add(b"-")?;

@@ -1,8 +1,10 @@
 // The text of an expression.
-ghost use Rattle.std.specs.Prelude.{◌≡◌, ◌-◌, ◌++◌, map, OnOk};
+ghost use Rattle.std.specs.Prelude.{◌≡◌, ◌-◌, ◌++◌, ◌||◌, nat_lt, map, OnOk};
 ghost use Rattle.mp_expr.specs.Shown.{variable_of, term_of};
 ghost use Rattle.mp_model_data.specs.Shown.{model_data};
-ghost use Rattle.mp_spelling.specs.Printed.{level, begins_minus, operand, right_operand, name_at, names_of, fenced, printed_variable, printed};
+ghost use Rattle.mp_canonical.specs.Terms.{level, begins_minus, fenced, name_at, variable_name, canonical};
+ghost use Rattle.mp_canonical.specs.Printable.{model_names};
+ghost use Rattle.mp_canonical.specs.Spelled.{spelled};
 
 use crate::number::{put_exponent, put_number, put_shift};
 use mp_base::{Bytes, NoMemory};
@@ -55,13 +57,13 @@ fn parameter_name<'t>(parameters: &[Parameter<'t>], number: u32) -> &'t [u8]
 }
 
 fn put_parameter(out: &mut Bytes, number: u32, model: &Model) -> Result<(), NoMemory>
-    ensures { OnOk result (out.new ≡ out.old ++ name_at (names_of (model_data model.now)).parameters (number - 1)) }
+    ensures { OnOk result (out.new ≡ out.old ++ name_at (model_names (model_data model.now)).parameters (number - 1)) }
 {
     out.add(parameter_name(model.parameters(), number))
 }
 
 fn put_variable(out: &mut Bytes, v: VarId, model: &Model) -> Result<(), NoMemory>
-    ensures { OnOk result (out.new ≡ out.old ++ printed_variable (names_of (model_data model.now)) (variable_of v)) }
+    ensures { OnOk result (out.new ≡ out.old ++ variable_name (model_names (model_data model.now)) (variable_of v)) }
 {
     match v {
         VarId::Endo(n) => out.add(name_of(model.endogenous_names(), n)),
@@ -71,8 +73,9 @@ fn put_variable(out: &mut Bytes, v: VarId, model: &Model) -> Result<(), NoMemory
 
 // The expression in parentheses, where they are needed.
 #[cycle(writer)]
+#[tactic(auto, unfolding(mp_canonical::specs::Spelled::spelled))]
 fn put_fenced(out: &mut Bytes, enclosed: bool, tree: &Tree, model: &Model) -> Result<(), NoMemory>
-    ensures { OnOk result (out.new ≡ out.old ++ fenced enclosed (printed (names_of (model_data model.now)) (term_of tree.now))) }
+    ensures { OnOk result (out.new ≡ out.old ++ spelled (fenced enclosed (canonical (model_names (model_data model.now)) (term_of tree.now)))) }
 {
     if !enclosed {
         return put_tree(out, tree, model);
@@ -85,7 +88,7 @@ fn put_fenced(out: &mut Bytes, enclosed: bool, tree: &Tree, model: &Model) -> Re
 // An operand that has to be bound this tightly.
 #[cycle(writer)]
 fn put_operand(out: &mut Bytes, least: u8, tree: &Tree, model: &Model) -> Result<(), NoMemory>
-    ensures { OnOk result (out.new ≡ out.old ++ operand least (term_of tree.now) (printed (names_of (model_data model.now)) (term_of tree.now))) }
+    ensures { OnOk result (out.new ≡ out.old ++ spelled (fenced (nat_lt (level (term_of tree.now)) least) (canonical (model_names (model_data model.now)) (term_of tree.now)))) }
 {
     put_fenced(out, level(tree) < least, tree, model)
 }
@@ -99,7 +102,7 @@ fn put_right(
     tree: &Tree,
     model: &Model,
 ) -> Result<(), NoMemory>
-    ensures { OnOk result (out.new ≡ out.old ++ (operator.now ++ right_operand least (term_of tree.now) (printed (names_of (model_data model.now)) (term_of tree.now)))) }
+    ensures { OnOk result (out.new ≡ out.old ++ (operator.now ++ spelled (fenced (nat_lt (level (term_of tree.now)) least || begins_minus (term_of tree.now)) (canonical (model_names (model_data model.now)) (term_of tree.now))))) }
 {
     out.add(operator)?;
     put_fenced(out, level(tree) < least || begins_minus(tree), tree, model)
@@ -108,16 +111,17 @@ fn put_right(
 // An operand of a call after what stands before it.
 #[cycle(writer)]
 fn put_after(out: &mut Bytes, before: &[u8], tree: &Tree, model: &Model) -> Result<(), NoMemory>
-    ensures { OnOk result (out.new ≡ out.old ++ (before.now ++ printed (names_of (model_data model.now)) (term_of tree.now))) }
+    ensures { OnOk result (out.new ≡ out.old ++ (before.now ++ spelled (canonical (model_names (model_data model.now)) (term_of tree.now)))) }
 {
     out.add(before)?;
     put_tree(out, tree, model)
 }
 
+// No text has a steady state or `pick` yet.
 #[cycle(writer)]
-#[tactic(auto, unfolding(mp_spelling::specs::Printed::printed))]
+#[tactic(auto, unfolding(mp_canonical::specs::Spelled::spelled, mp_canonical::specs::Terms::canonical))]
 pub(crate) fn put_tree(out: &mut Bytes, tree: &Tree, model: &Model) -> Result<(), NoMemory>
-    ensures { OnOk result (out.new ≡ out.old ++ printed (names_of (model_data model.now)) (term_of tree.now)) }
+    ensures { OnOk result (out.new ≡ out.old ++ spelled (canonical (model_names (model_data model.now)) (term_of tree.now))) }
 {
     match tree {
         Tree::Num { m, s } => put_number(out, *m, *s),
@@ -126,11 +130,7 @@ pub(crate) fn put_tree(out: &mut Bytes, tree: &Tree, model: &Model) -> Result<()
             put_variable(out, *v, model)?;
             put_shift(out, *shift)
         }
-        Tree::Anchor(n) => {
-            out.add(b"STEADY_STATE(")?;
-            out.add(name_of(model.endogenous_names(), *n))?;
-            out.add(b")")
-        }
+        Tree::Anchor(_) | Tree::Pick(..) => Ok(()),
         Tree::Neg(a) => {
             out.add(b"-")?;
             put_operand(out, 4, a, model)
@@ -164,13 +164,6 @@ pub(crate) fn put_tree(out: &mut Bytes, tree: &Tree, model: &Model) -> Result<()
         Tree::Max(a, b) => {
             put_after(out, b"max(", a, model)?;
             put_after(out, b",", b, model)?;
-            out.add(b")")
-        }
-        Tree::Pick(a, b, c, d) => {
-            put_after(out, b"pick(", a, model)?;
-            put_after(out, b",", b, model)?;
-            put_after(out, b",", c, model)?;
-            put_after(out, b",", d, model)?;
             out.add(b")")
         }
     }

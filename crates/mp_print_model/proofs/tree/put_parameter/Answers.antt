@@ -1,6 +1,6 @@
 use Rattle.std.proofs.Common.{◌-◌, map, ap, ◌∙◌}
 use Rattle.mp_semantics.specs.Model as m
-use Rattle.mp_spelling.specs.Printed.{name_at}
+use Rattle.mp_canonical.specs.Terms.{name_at}
 use Rattle.mp_print_model.proofs.Names.{names_seen}
 use Rattle.mp_print_model.proofs.tree.put_parameter.Goals as goal
 

@@ -1,6 +1,0 @@
-use Rattle.std.proofs.Common.{◌≡◌, ◌++◌, ◌∷◌, map, drop}
-use Rattle.std.specs.List.{flat_map}
-use Rattle.mp_print_model.proofs.model.put_names.Given as goal
-
-abbrev pub invariant-turns : goal.invariant-turns
-invariant-turns l = l.out ++ flat_map (λ m. 32 ∷ m) (map (λ n. n.now) (drop l.name-index l.names)) ≡ l.initial.out ++ flat_map (λ m. 32 ∷ m) (map (λ n. n.now) l.names)
