@@ -3,13 +3,10 @@
 
 pub mod atom;
 pub mod equation;
+pub mod expression;
 pub mod fault;
 pub mod file;
-pub mod sum;
 
 pub use equation::sides_of;
 pub use fault::ModelFault;
 pub use file::model;
-
-#[cfg(test)]
-mod tests;

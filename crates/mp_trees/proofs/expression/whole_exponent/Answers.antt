@@ -1,7 +1,7 @@
 use Rattle.std.proofs.Common.{sym}
 use Rattle.std.proofs.lemmas.Result.{err_from_is_err_and}
 use Rattle.mp_trees.proofs.Bound.{Fails-fault}
-use Rattle.mp_trees.proofs.sum.whole_exponent.Goals as goal
+use Rattle.mp_trees.proofs.expression.whole_exponent.Goals as goal
 
 pub returns-in_err-exponent_value : goal.returns-in_err-exponent_value
 returns-in_err-exponent_value c =
