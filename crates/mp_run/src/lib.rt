@@ -6,6 +6,3 @@ pub mod top;
 
 pub use mp_tell::tell;
 pub use top::run;
-
-#[cfg(test)]
-mod rows;

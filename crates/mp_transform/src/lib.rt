@@ -5,6 +5,3 @@ pub mod reading;
 pub mod transform;
 
 pub use transform::transformed;
-
-#[cfg(test)]
-mod tests;
