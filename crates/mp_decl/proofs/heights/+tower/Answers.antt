@@ -36,4 +36,8 @@ expression_height-returns-in-Call t c =
 
 pub further_height-turns-preserved : goal.further_height-turns-preserved
 further_height-turns-preserved t c =
-    grown_turn most c.args.more.now c.turns.next-index c.next-item.result c.next-item.result c.turns.tall c.expression_height.result _ _ c.turns-test.true c.next-item.is c.expression_height.ensures c.above.ensures c.turns.invariant
+    (grown_turn most c.args.more.now c.turns.next-index c.next-item.result c.next-item.result c.turns.tall c.expression_height.result _ _ c.turns-test.true c.next-item.is c.expression_height.ensures c.above-tall.ensures c.turns.invariant.0, omega (arith, c.above-tall.ensures))
+
+pub further_height-returns : goal.further_height-returns
+further_height-returns t c =
+    omega (arith, grown_end most c.args.more.now c.turns.next-index c.turns.tall _ c.turns-test.false c.turns.invariant.0, c.turns.invariant.1)
