@@ -1,3 +1,2 @@
 pub mod Again
-pub mod Folds
-pub mod Views
+pub mod Chains
