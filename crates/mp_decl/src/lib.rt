@@ -21,6 +21,3 @@ pub use known::Known;
 pub use search::{Read, Reader, Search};
 pub use shifts::{FarShift, far_shift};
 pub use text::{Declared, declare};
-
-#[cfg(test)]
-mod tests;

@@ -9,6 +9,3 @@ pub mod value;
 
 pub use literal::decimal;
 pub use value::Decimal;
-
-#[cfg(test)]
-mod tests;

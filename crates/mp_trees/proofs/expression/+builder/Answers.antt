@@ -1,7 +1,8 @@
-use Rattle.std.proofs.Common.{Ok, map, refl, sym, ap, ◌∙◌}
+use Rattle.std.proofs.Common.{rules, Ok, map, refl, sym, ap}
 use Rattle.std.proofs.lemmas.Result.{err_from_is_err_and}
 use Rattle.mp_file.specs.Shown.{expr_of, further_of}
 use Rattle.mp_file.proofs.Views.{signed_is, chain_is, power_is, paren_is, call_is}
+use Rattle.mp_expr.specs.Shown.{term_of}
 use Rattle.mp_values.specs.ModelOf.{term_given}
 use Rattle.mp_trees.proofs.Bound.{Fails-bind}
 use Rattle.mp_trees.proofs.Chains.{term_chain, exponent_fails, exponent_gives}
@@ -34,11 +35,12 @@ tree_of-returns-in_err-base-in-Power t c =
 pub tree_of-returns-in_err-exponent-in-Power : goal.tree_of-returns-in_err-exponent-in-Power
 tree_of-returns-in_err-exponent-in-Power t c =
     let p = err_from_is_err_and c.from_residual-in_err-exponent-in-Power.result c.from_residual-in_err-exponent-in-Power.ensures.1 in
-    rw (p.1, p.2, power_is c.in-Power.is c.get-in-Power.ensures c.get-in-Power-2.ensures, c.in_ok-base-in-Power.ensures) (exponent_fails _ _ c.args.table.now c.in-Power.at c.in-Power.sign _ c.in_err-exponent-in-Power.ensures)
+    rw (p.1, p.2, power_is c.in-Power.is c.get-in-Power.ensures c.get-in-Power-2.ensures, c.in_ok-base-in-Power.ensures) (exponent_fails _ (term_of c.in_ok-base-in-Power.base) c.args.table.now c.in-Power.at c.in-Power.sign (expr_of c.get-in-Power-2.result.now) c.in_err-exponent-in-Power.ensures)
 
 pub tree_of-returns-in_ok-power_tree-in-Power : goal.tree_of-returns-in_ok-power_tree-in-Power
 tree_of-returns-in_ok-power_tree-in-Power t c =
-    rw (power_is c.in-Power.is c.get-in-Power.ensures c.get-in-Power-2.ensures, c.in_ok-base-in-Power.ensures) (exponent_gives _ c.args.table.now c.in-Power.at c.in-Power.sign _ _ c.in_ok-exponent-in-Power.ensures ∙ ap Ok (sym c.in_ok-power_tree-in-Power.ensures))
+    let e = exponent_gives (term_of c.in_ok-base-in-Power.base) c.args.table.now c.in-Power.at c.in-Power.sign (expr_of c.get-in-Power-2.result.now) c.in_ok-exponent-in-Power.exponent c.in_ok-exponent-in-Power.ensures in
+    rw (power_is c.in-Power.is c.get-in-Power.ensures c.get-in-Power-2.ensures, c.in_ok-base-in-Power.ensures, e) (search rules)
 
 pub tree_of-returns-in-Paren : goal.tree_of-returns-in-Paren
 tree_of-returns-in-Paren t c = rw (paren_is c.in-Paren.is c.get-in-Paren.ensures) c.tree_of-in-Paren.ensures
