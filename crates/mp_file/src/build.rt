@@ -1,14 +1,31 @@
 // Expressions made of others.
-ghost use Rattle.std.specs.Prelude.{◌≡◌, map, IfOk};
+ghost use Rattle.std.specs.Prelude.{◌≡◌, map, option_map, IfOk};
 ghost use Rattle.mp_syntax.specs.Syntax as s;
-ghost use Rattle.mp_file.specs.Shown.{expr_of, further_of};
+ghost use Rattle.mp_file.specs.Shown.{expr_of, further_of, named_of, shift_of};
 
-use crate::{Expression, Further};
+use crate::{Expression, Further, Named, Shift};
 use mp_syntax::{Function, Sign};
 use sqlite_items::{Boxed, Items};
 use std::alloc::{AllocError, Global};
 
 impl<'t> Expression<'t> {
+    /// The variable of this name, with its shift if there is one.
+    pub fn variable(
+        alloc: Global,
+        name: Named<'t>,
+        shift: Option<Shift<'t>>,
+    ) -> Result<Expression<'t>, AllocError>
+        ensures { IfOk result (λ e. expr_of e ≡ s.Variable (named_of name.entry) (option_map shift_of shift.entry)) }
+    {
+        match shift {
+            Some(shift) => {
+                let shift = Boxed::new(alloc, shift)?;
+                Ok(Expression::Shifted { name, shift })
+            }
+            None => Ok(Expression::Variable { name }),
+        }
+    }
+
     /// The operand with this sign before it.
     pub fn signed(
         alloc: Global,

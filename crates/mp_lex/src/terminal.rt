@@ -8,9 +8,7 @@ use crate::tokens::Token;
 use mp_tokens::{Terminal, TokenKind};
 
 // The words that are no names, by their number of bytes, with what each is.
-const OF_2: [(&[u8], Terminal); 1] = [
-    (b"ln", Terminal::Reserved),
-];
+const OF_2: [(&[u8], Terminal); 1] = [(b"ln", Terminal::Reserved)];
 
 const OF_3: [(&[u8], Terminal); 11] = [
     (b"var", Terminal::Var),
@@ -66,9 +64,7 @@ const OF_7: [(&[u8], Terminal); 4] = [
     (b"normpdf", Terminal::Reserved),
 ];
 
-const OF_10: [(&[u8], Terminal); 1] = [
-    (b"parameters", Terminal::Parameters),
-];
+const OF_10: [(&[u8], Terminal); 1] = [(b"parameters", Terminal::Parameters)];
 
 const OF_12: [(&[u8], Terminal); 3] = [
     (b"occbin_setup", Terminal::OccbinSetup),
@@ -76,26 +72,24 @@ const OF_12: [(&[u8], Terminal); 3] = [
     (b"steady_state", Terminal::SteadyState),
 ];
 
-const OF_13: [(&[u8], Terminal); 1] = [
-    (b"occbin_solver", Terminal::OccbinSolver),
-];
+const OF_13: [(&[u8], Terminal); 1] = [(b"occbin_solver", Terminal::OccbinSolver)];
 
-const OF_17: [(&[u8], Terminal); 1] = [
-    (b"model_diagnostics", Terminal::ModelDiagnostics),
-];
+const OF_17: [(&[u8], Terminal); 1] = [(b"model_diagnostics", Terminal::ModelDiagnostics)];
 
 const OF_18: [(&[u8], Terminal); 2] = [
     (b"steady_state_model", Terminal::SteadyStateModel),
     (b"occbin_constraints", Terminal::OccbinConstraints),
 ];
 
-const OF_23: [(&[u8], Terminal); 1] = [
-    (b"perfect_foresight_setup", Terminal::PerfectForesightSetup),
-];
+const OF_23: [(&[u8], Terminal); 1] = [(
+    b"perfect_foresight_setup",
+    Terminal::PerfectForesightSetup,
+)];
 
-const OF_24: [(&[u8], Terminal); 1] = [
-    (b"perfect_foresight_solver", Terminal::PerfectForesightSolver),
-];
+const OF_24: [(&[u8], Terminal); 1] = [(
+    b"perfect_foresight_solver",
+    Terminal::PerfectForesightSolver,
+)];
 
 impl Token<'_> {
     /// What this token is to the grammar: its kind, or for a word the terminal that the table of keywords says (Dynare
@@ -155,11 +149,13 @@ fn word_of(text: &[u8]) -> Terminal
 }
 
 /// Whether the text is a reserved word.
-#[tactic(auto, using(crate::proofs::Reserved::reserved_word))]
 pub fn is_reserved(text: &[u8]) -> bool
     ensures { result ≡ is_reserved text.now }
 {
-    word_of(text) != Terminal::Name
+    match word_of(text) {
+        Terminal::Name => false,
+        _ => true,
+    }
 }
 
 // What the text is among these words, or a name.
