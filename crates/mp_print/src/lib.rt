@@ -5,6 +5,3 @@ pub mod expression;
 pub mod file;
 
 pub use file::print;
-
-#[cfg(test)]
-mod tests;
