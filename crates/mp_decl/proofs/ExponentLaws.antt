@@ -1,7 +1,7 @@
 -- The exponents of several equations.
 use Rattle.std.proofs.Common.{◌≡◌, ℕ, ◌+◌, ◌<◌, List, [], ◌∷◌, ◌++◌, map, length, drop, get_or, Ok, Err, refl, sym, ap, ◌∙◌}
 use Rattle.std.proofs.lemmas.List.{drop_more}
-use Rattle.mp_syntax.specs.Syntax as s
+use Rattle.mp_statements.specs.Statements.{Item}
 use Rattle.mp_statements.specs.Parts.{items_in, equations_of}
 use Rattle.mp_file.specs.declared.Statement.{Statement}
 use Rattle.mp_file.specs.Shown.{statement_of}
@@ -13,7 +13,7 @@ after-after : (r : Folded (Unit {0})) (f g : Folded (Unit {0})) → (r >>= λ _.
 after-after (Ok x) f g = refl
 after-after (Err e) f g = refl
 
-exponents-append : (t : Table) (xs ys : List s.Item) → all_exponents t (xs ++ ys) ≡ (all_exponents t xs >>= λ _. all_exponents t ys)
+exponents-append : (t : Table) (xs ys : List Item) → all_exponents t (xs ++ ys) ≡ (all_exponents t xs >>= λ _. all_exponents t ys)
 exponents-append t [] ys = refl
 exponents-append t (x ∷ xs) ys =
     ap (λ r. item_exponents t x >>= λ _. r) (exponents-append t xs ys) ∙ after-after (item_exponents t x) (all_exponents t xs) (all_exponents t ys)

@@ -30,12 +30,10 @@ module _ {X S : Type 0} (points : S → List X) (all : List S → List X) (more 
 pub turns_end : {X S : Type 0} (all : List S → List X) (test : X → Bool) (xs : List S) (i : ℕ) (whole : Option X) → all [] ≡ [] → length xs ≤ i → find test (all (drop i xs)) ≡ whole → None ≡ whole
 turns_end all test xs i whole none past so_far = sym (ap (λ l. find test (all l)) (drop_of_length-le xs past) ∙ ap (find test) none) ∙ so_far
 
--- what is found among all, where these are two lists
-pub found_first : {X : Type 0} (test : X → Bool) (all xs ys : List X) (p : X) → all ≡ xs ++ ys → Some p ≡ find test xs → Some p ≡ find test all
-found_first test all xs ys p two some = find-before test xs ys p some ∙ ap (find test) (sym two)
-
-pub found_second : {X : Type 0} (test : X → Bool) (all xs ys : List X) (r : Option X) → all ≡ xs ++ ys → None ≡ find test xs → r ≡ find test ys → r ≡ find test all
-found_second test all xs ys r two none found = found ∙ sym (find-after test xs ys (sym none)) ∙ ap (find test) (sym two)
+-- what is found among two lists
+pub pair_found : {X : Type 0} (test : X → Bool) (all xs ys : List X) (r p q : Option X) → all ≡ xs ++ ys → p ≡ find test xs → q ≡ find test ys → r ≡ option_or p q → r ≡ find test all
+pair_found test all xs ys r p q two first second is =
+    is ∙ ap (λ u. option_or u q) first ∙ ap (option_or (find test xs)) second ∙ sym (find-append test xs ys) ∙ ap (find test) (sym two)
 
 -- the first far name is the first one that is far
 pub first_far-find : (ps : List Point) → first_far ps ≡ option_map reach_of (find (λ p. is_far (reach_of p)) ps)

@@ -7,7 +7,7 @@ use Rattle.std.specs.Str.{bytes_eq}
 use Rattle.std.proofs.Math.ListN.{drop_of_length-le}
 use Rattle.std.proofs.lemmas.List.{drop_more}
 use Rattle.std.proofs.lemmas.List.Folds.{list_any-append}
-use Rattle.mp_syntax.specs.Syntax as s
+use Rattle.mp_statements.specs.Statements as f
 use Rattle.mp_file.specs.declared.Statement.{Statement}
 use Rattle.mp_file.specs.Shown.{statement_of}
 use Rattle.mp_declared.specs.Points.{Constant, reads}
@@ -26,17 +26,17 @@ or-same : (a : List (List ℕ)) (given other : List (List ℕ)) → Same given o
 or-same a given other same name =
     list_any-append (bytes_eq name) a given ∙ ap (λ b. list_any (bytes_eq name) a || b) (same name) ∙ sym (list_any-append (bytes_eq name) a other)
 
-read_early-same : (given other : List (List ℕ)) (file : List s.Statement) → Same given other → read_early given file ≡ read_early other file
+read_early-same : (given other : List (List ℕ)) (file : List f.Statement) → Same given other → read_early given file ≡ read_early other file
 read_early-same given other [] same = refl
-read_early-same given other (s.Declares kind names ∷ file) same = read_early-same given other file same
-read_early-same given other (s.Assigns name value ∷ file) same =
+read_early-same given other (f.Declares kind names ∷ file) same = read_early-same given other file same
+read_early-same given other (f.Assigns name value ∷ file) same =
     λ i. option_or (find-same given other (names_read (reads Constant value)) same i) (read_early-same (name.name ∷ given) (name.name ∷ other) file (or-same (name.name ∷ []) given other same) i)
-read_early-same given other (s.Model at items ∷ file) same = read_early-same given other file same
+read_early-same given other (f.Model at items ∷ file) same = read_early-same given other file same
 
-read_early-more : (given : List (List ℕ)) (x : s.Statement) (file : List s.Statement) → read_early given (x ∷ file) ≡ option_or (early_in given x) (read_early (assigned_in x ++ given) file)
-read_early-more given (s.Declares kind names) file = refl
-read_early-more given (s.Assigns name value) file = refl
-read_early-more given (s.Model at items) file = refl
+read_early-more : (given : List (List ℕ)) (x : f.Statement) (file : List f.Statement) → read_early given (x ∷ file) ≡ option_or (early_in given x) (read_early (assigned_in x ++ given) file)
+read_early-more given (f.Declares kind names) file = refl
+read_early-more given (f.Assigns name value) file = refl
+read_early-more given (f.Model at items) file = refl
 
 or_moved : (a g r : Bool) → ((a || g) || r) ≡ (g || (a || r))
 or_moved true true r = refl

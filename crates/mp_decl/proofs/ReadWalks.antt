@@ -2,7 +2,7 @@
 use Rattle.std.proofs.Common.{◌≡◌, ℕ, List, [], ◌∷◌, ◌++◌, Bool, true, false, cond, option_map, Option, Some, None, is_some, Ok, Err, refl, sym, ap, subst}
 use Rattle.std.specs.Prelude.{find}
 use Rattle.std.specs.List.{flat_map, AllByRecursion}
-use Rattle.mp_syntax.specs.Syntax.{Expr, Number, Variable, Plus, Minus, Times, Over, Signed, Power, Paren, Min, Max}
+use Rattle.mp_syntax.specs.Syntax.{Expr, Number, Variable, Signed, Binary, Power, Paren, Call}
 use Rattle.mp_statements.specs.Statements.{Item}
 use Rattle.mp_declared.specs.Points.{Point, Declared, Assigned, Begins, Reads, Reader, Equation, Constant, reads, item_reads}
 use Rattle.mp_declared.specs.Declared.{Fault, is_missing, names_read}
@@ -26,15 +26,11 @@ pub all-reads : (r : Reader) (e : Expr) → AllByRecursion IsRead (reads r e)
 unfolding reads
 all-reads r (Number literal at) = tt
 all-reads r (Variable name shift) = (tt, tt)
-all-reads r (Plus a at b) = all-append (reads r a) (reads r b) (all-reads r a) (all-reads r b)
-all-reads r (Minus a at b) = all-append (reads r a) (reads r b) (all-reads r a) (all-reads r b)
-all-reads r (Times a at b) = all-append (reads r a) (reads r b) (all-reads r a) (all-reads r b)
-all-reads r (Over a at b) = all-append (reads r a) (reads r b) (all-reads r a) (all-reads r b)
+all-reads r (Binary o a at b) = all-append (reads r a) (reads r b) (all-reads r a) (all-reads r b)
 all-reads r (Signed s a) = all-reads r a
 all-reads r (Power a at s b) = all-append (reads r a) (reads Constant b) (all-reads r a) (all-reads Constant b)
 all-reads r (Paren a) = all-reads r a
-all-reads r (Min a b) = all-append (reads r a) (reads r b) (all-reads r a) (all-reads r b)
-all-reads r (Max a b) = all-append (reads r a) (reads r b) (all-reads r a) (all-reads r b)
+all-reads r (Call f a b) = all-append (reads r a) (reads r b) (all-reads r a) (all-reads r b)
 
 pub all-items : (items : List Item) → AllByRecursion IsRead (flat_map item_reads items)
 all-items [] = tt

@@ -1,56 +1,36 @@
--- What a sum and a product read.
+-- What expressions read, by their shape.
 use Rattle.std.proofs.Common.{◌≡◌, ℕ, List, [], ◌∷◌, ◌++◌, option_map, Option, Some, None, refl, sym, ap, ◌∙◌, append-nil, append_assoc}
 use Rattle.std.specs.List.{flat_map}
 use Rattle.mp_syntax.specs.declared.operator.Sign.{Sign}
-use Rattle.mp_syntax.specs.declared.operator.Sign.TheVariants as sign
-use Rattle.mp_syntax.specs.declared.operator.Scale.{Scale}
-use Rattle.mp_syntax.specs.declared.operator.Scale.TheVariants as scale
-use Rattle.mp_syntax.specs.Syntax.{Expr, Term, Factor, joined, scaled, signed, with_terms, with_factors}
+use Rattle.mp_syntax.specs.declared.operator.Function.{Function}
+use Rattle.mp_syntax.specs.Syntax.{Expr, Signed, Binary, Power, Paren, Call, Further, with_further}
+use Rattle.mp_file.specs.declared.Expression.{Expression}
 use Rattle.mp_file.specs.declared.Item.{Item}
-use Rattle.mp_file.specs.declared.Term as file
-use Rattle.mp_file.specs.Shown.{product_of, sum_of, expr_of, item_of}
-use Rattle.mp_declared.specs.Points.{Reader, Equation, reads, item_reads}
+use Rattle.mp_file.specs.Shown.{expr_of, item_of}
+use Rattle.mp_declared.specs.Points.{Reader, Equation, Constant, reads, item_reads}
 use Rattle.mp_declared.specs.Sides.{right_side}
 
-reads-scaled : (r : Reader) (s : Scale) (e : Expr) (at : ℕ) (p : Expr) → reads r (scaled s e at p) ≡ reads r e ++ reads r p
+pub reads_signed : (r : Reader) (s : Sign) (e : Expr) → reads r (Signed s e) ≡ reads r e
 unfolding reads
-reads-scaled r scale.Times e at p = refl
-reads-scaled r scale.Over e at p = refl
+reads_signed r s e = refl
 
-reads-joined : (r : Reader) (s : Sign) (e : Expr) (at : ℕ) (p : Expr) → reads r (joined s e at p) ≡ reads r e ++ reads r p
+pub reads_paren : (r : Reader) (e : Expr) → reads r (Paren e) ≡ reads r e
 unfolding reads
-reads-joined r sign.Plus e at p = refl
-reads-joined r sign.Minus e at p = refl
+reads_paren r e = refl
 
-reads-with_factors : (r : Reader) (e : Expr) (more : List Factor) → reads r (with_factors e more) ≡ reads r e ++ flat_map (λ x. reads r x.power) more
-reads-with_factors r e [] = sym (append-nil (reads r e))
-reads-with_factors r e (x ∷ more) =
-    reads-with_factors r (scaled x.scale e x.at x.power) more
-    ∙ ap (λ l. l ++ flat_map (λ y. reads r y.power) more) (reads-scaled r x.scale e x.at x.power)
-    ∙ append_assoc (reads r e) (reads r x.power) (flat_map (λ y. reads r y.power) more)
-
-reads-with_terms : (r : Reader) (e : Expr) (more : List Term) → reads r (with_terms e more) ≡ reads r e ++ flat_map (λ x. reads r x.product) more
-reads-with_terms r e [] = sym (append-nil (reads r e))
-reads-with_terms r e (x ∷ more) =
-    reads-with_terms r (joined x.sign e x.at x.product) more
-    ∙ ap (λ l. l ++ flat_map (λ y. reads r y.product) more) (reads-joined r x.sign e x.at x.product)
-    ∙ append_assoc (reads r e) (reads r x.product) (flat_map (λ y. reads r y.product) more)
-
-pub reads-product : (r : Reader) (factors : List Factor) → reads r (product_of factors) ≡ flat_map (λ x. reads r x.power) factors
+pub reads_power : (r : Reader) (e : Expr) (at : ℕ) (s : Option Sign) (f : Expr) → reads r (Power e at s f) ≡ reads r e ++ reads Constant f
 unfolding reads
-reads-product r [] = refl
-reads-product r (x ∷ more) = reads-with_factors r x.power more
+reads_power r e at s f = refl
 
-pub reads-sum : (r : Reader) (terms : List Term) → reads r (sum_of terms) ≡ flat_map (λ x. reads r x.product) terms
+pub reads_call : (r : Reader) (function : Function) (e f : Expr) → reads r (Call function e f) ≡ reads r e ++ reads r f
 unfolding reads
-reads-sum r [] = refl
-reads-sum r (x ∷ more) = reads-with_terms r x.product more
+reads_call r function e f = refl
 
--- a sign reads nothing
-pub reads-signed : (r : Reader) (s : Option Sign) (e : Expr) → reads r (signed s e) ≡ reads r e
+pub reads_chain : (r : Reader) (e : Expr) (more : List Further) → reads r (with_further e more) ≡ reads r e ++ flat_map (λ x. reads r x.operand) more
 unfolding reads
-reads-signed r None e = refl
-reads-signed r (Some s) e = refl
+reads_chain r e [] = sym (append-nil (reads r e))
+reads_chain r e (x ∷ more) =
+    reads_chain r (Binary x.op e x.at x.operand) more ∙ append_assoc (reads r e) (reads r x.operand) (flat_map (λ y. reads r y.operand) more)
 
 -- a side that is not written reads nothing
 pub reads-right_none : reads Equation (right_side None) ≡ []
@@ -62,5 +42,5 @@ pub item_reads-two : (x : Item) → item_reads (item_of x) ≡ reads Equation (e
 item_reads-two x = ap (λ l. reads Equation (expr_of x.left) ++ l) (append-nil (reads Equation (right_side (option_map expr_of x.right))))
 
 -- its right side, which may not be written
-pub reads-right : (right written : Option (List file.Term)) → right ≡ written → reads Equation (right_side (option_map expr_of right)) ≡ reads Equation (right_side (option_map expr_of written))
+pub reads-right : (right written : Option Expression) → right ≡ written → reads Equation (right_side (option_map expr_of right)) ≡ reads Equation (right_side (option_map expr_of written))
 reads-right right written is = ap (λ r. reads Equation (right_side (option_map expr_of r))) is

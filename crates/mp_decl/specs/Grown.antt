@@ -1,20 +1,9 @@
--- Heights of sums and products as lists.
-use Rattle.std.specs.Prelude.{ℕ, ◌+◌, max, List, [], ◌∷◌, Option, Some, None}
-use Rattle.mp_syntax.specs.declared.operator.Sign.{Sign}
-use Rattle.mp_declared.specs.Heights.{signed_height}
+-- How a sum or a product grows.
+use Rattle.std.specs.Prelude.{ℕ, ◌+◌, max, List, [], ◌∷◌}
+use Rattle.mp_syntax.specs.Syntax.{Further}
+use Rattle.mp_declared.specs.Heights.{height}
 
--- with the sign before it, if there is one
-abbrev pub height_by : Option Sign → ℕ → ℕ
-height_by None n = n
-height_by (Some s) n = signed_height s n
-
--- the height so far with one more part
-abbrev pub next_height : Option ℕ → ℕ → ℕ
-next_height None n = n
-next_height (Some h) n = 1 + max h n
-
--- the height so far, and then parts of these heights
-abbrev pub grown : Option ℕ → List ℕ → ℕ
-grown None [] = 1
-grown (Some h) [] = h
-grown tall (n ∷ ns) = grown (Some (next_height tall n)) ns
+-- the height so far, grown by these operands
+abbrev pub grown : ℕ → List Further → ℕ
+grown n [] = n
+grown n (x ∷ more) = grown (1 + max n (height x.operand)) more

@@ -1,91 +1,77 @@
-// The first name that is sought, from left to right. Recursion goes over parentheses and exponents alone.
+// The first name that is sought, from left to right.
 ghost use Rattle.std.specs.Prelude.{◌≡◌, map, find, option_map};
 ghost use Rattle.std.specs.List.{flat_map};
+ghost use Rattle.std.specs.Option.{option_or};
 ghost use Rattle.mp_statements.specs.Parts.{equations_of};
-ghost use Rattle.mp_file.specs.Shown.{atom_of, factor_of, product_of, expr_of, item_of};
+ghost use Rattle.mp_file.specs.Shown.{expr_of, further_of, item_of};
 ghost use Rattle.mp_declared.specs.Points as p;
 ghost use Rattle.mp_declared.specs.Points.{reads, item_reads};
 ghost use Rattle.mp_decl.specs.Shown.{reader_of, read_of};
 ghost use Rattle.mp_decl.specs.Search.{sought_by};
 
 use crate::search::{Read, Reader, Search};
-use mp_file::{Atom, Factor, Item, Term};
+use mp_file::{Expression, Further, Item};
 
+// The first of two reads that is there.
+fn first_of<'t>(x: Option<Read<'t>>, y: Option<Read<'t>>) -> Option<Read<'t>>
+    ensures { option_map read_of result ≡ option_or (option_map read_of x.entry) (option_map read_of y.entry) }
+{
+    match x {
+        Some(read) => Some(read),
+        None => y,
+    }
+}
+
+/// The first name that is sought in an expression.
 #[cycle(finder)]
 #[tactic(auto, unfolding(mp_declared::specs::Points::reads))]
-fn find_in_atom<'t>(search: &Search<'_, 't>, reader: Reader, atom: &Atom<'t>) -> Option<Read<'t>>
-    ensures { option_map read_of result ≡ find (sought_by search.now) (reads (reader_of reader) (atom_of atom.now)) }
+pub(crate) fn find_in<'t>(
+    search: &Search<'_, 't>,
+    reader: Reader,
+    expression: &Expression<'t>,
+) -> Option<Read<'t>>
+    ensures { option_map read_of result ≡ find (sought_by search.now) (reads (reader_of reader) (expr_of expression.now)) }
 {
-    match atom {
-        Atom::Number { .. } => None,
-        Atom::Variable { name, shift } => search.tested(Read {
+    match expression {
+        Expression::Number { .. } => None,
+        Expression::Variable { name } => search.tested(Read {
             reader,
             name: *name,
-            shift: *shift,
+            shift: None,
         }),
-        Atom::Paren { sum } => find_in_sum(search, reader, sum.as_slice()),
-        Atom::Least { first, second } => {
-            if let Some(read) = find_in_sum(search, reader, first.as_slice()) {
-                return Some(read);
-            }
-            find_in_sum(search, reader, second.as_slice())
+        Expression::Shifted { name, shift } => search.tested(Read {
+            reader,
+            name: *name,
+            shift: Some(*shift.get()),
+        }),
+        Expression::Signed { operand, .. } => find_in(search, reader, operand.get()),
+        Expression::Chain { first, more } => {
+            let read = find_in(search, reader, first.get());
+            first_of(read, find_in_further(search, reader, more.as_slice()))
         }
-        Atom::Greatest { first, second } => {
-            if let Some(read) = find_in_sum(search, reader, first.as_slice()) {
-                return Some(read);
-            }
-            find_in_sum(search, reader, second.as_slice())
+        Expression::Power { base, exponent, .. } => {
+            let read = find_in(search, reader, base.get());
+            first_of(read, find_in(search, Reader::Constant, exponent.get()))
         }
-    }
-}
-
-#[cycle(finder)]
-#[tactic(auto, unfolding(mp_declared::specs::Points::reads))]
-fn find_in_factor<'t>(
-    search: &Search<'_, 't>,
-    reader: Reader,
-    factor: &Factor<'t>,
-) -> Option<Read<'t>>
-    ensures { option_map read_of result ≡ find (sought_by search.now) (reads (reader_of reader) (factor_of factor.now).power) }
-{
-    match factor {
-        Factor::Plain { base, .. } => find_in_atom(search, reader, base),
-        Factor::Raised { base, exponent, .. } => {
-            if let Some(read) = find_in_atom(search, reader, base) {
-                return Some(read);
-            }
-            find_in_atom(search, Reader::Constant, exponent)
+        Expression::Paren { inside } => find_in(search, reader, inside.get()),
+        Expression::Call { first, second, .. } => {
+            let read = find_in(search, reader, first.get());
+            first_of(read, find_in(search, reader, second.get()))
         }
     }
 }
 
+// The first name that is sought in these operands.
 #[cycle(finder)]
-fn find_in_product<'t>(
+fn find_in_further<'t>(
     search: &Search<'_, 't>,
     reader: Reader,
-    factors: &[Factor<'t>],
+    more: &[Further<'t>],
 ) -> Option<Read<'t>>
-    ensures { option_map read_of result ≡ find (sought_by search.now) (reads (reader_of reader) (product_of (map factor_of factors.now))) }
+    ensures { option_map read_of result ≡ find (sought_by search.now) (flat_map (λ x. reads (reader_of reader) x.operand) (map further_of more.now)) }
 {
-    'turns: for factor in factors {
-        if let Some(read) = find_in_factor(search, reader, factor) {
-            return Some(read);
-        }
-    }
-    None
-}
-
-/// The first name that is sought in a sum.
-#[cycle(finder)]
-pub(crate) fn find_in_sum<'t>(
-    search: &Search<'_, 't>,
-    reader: Reader,
-    terms: &[Term<'t>],
-) -> Option<Read<'t>>
-    ensures { option_map read_of result ≡ find (sought_by search.now) (reads (reader_of reader) (expr_of terms.now)) }
-{
-    'turns: for term in terms {
-        if let Some(read) = find_in_product(search, reader, term.factors.as_slice()) {
+    'turns: for next in more {
+        if let Some(read) = find_in(search, reader, &next.operand) {
             return Some(read);
         }
     }
@@ -95,12 +81,10 @@ pub(crate) fn find_in_sum<'t>(
 fn find_in_item<'t>(search: &Search<'_, 't>, item: &Item<'t>) -> Option<Read<'t>>
     ensures { option_map read_of result ≡ find (sought_by search.now) (item_reads (item_of item.now)) }
 {
-    if let Some(read) = find_in_sum(search, Reader::Equation, item.left.as_slice()) {
-        return Some(read);
-    }
+    let read = find_in(search, Reader::Equation, &item.left);
     match &item.right {
-        None => None,
-        Some(terms) => find_in_sum(search, Reader::Equation, terms.as_slice()),
+        None => read,
+        Some(right) => first_of(read, find_in(search, Reader::Equation, right)),
     }
 }
 

@@ -1,19 +1,17 @@
-// How high the sides of a file's equations are, counted on its lists, so that no tree is built. Recursion goes over
-// parentheses alone.
-ghost use Rattle.std.specs.Prelude.{◌≡◌, ◌≤◌, ◌-◌, ◌+◌, ◌^◌, min, max, map, List, [], length, option_map};
+// How high the sides of a file's equations are, so that no tree is built.
+ghost use Rattle.std.specs.Prelude.{◌≡◌, ◌≤◌, ◌-◌, ◌+◌, ◌^◌, min, max, map, List, length, option_map};
 ghost use Rattle.std.specs.List.{flat_map};
 ghost use Rattle.mp_tokens.specs.Tokens.{Tok};
 ghost use Rattle.mp_statements.specs.Statements.{Statement};
-ghost use Rattle.mp_syntax.specs.Grammar.{Reads};
-ghost use Rattle.mp_file.specs.Shown.{atom_of, factor_of, product_of, expr_of, item_of, file_of};
+ghost use Rattle.mp_grammar.specs.Grammar.{ReadsFile};
+ghost use Rattle.mp_file.specs.Shown.{expr_of, further_of, item_of, file_of};
 ghost use Rattle.mp_declared.specs.Sides.{sides, right_side};
-ghost use Rattle.mp_declared.specs.Heights.{height, greatest, greatest_height};
-ghost use Rattle.mp_decl.specs.Grown.{next_height, grown, height_by};
+ghost use Rattle.mp_declared.specs.Heights.{height, signed_height, greatest, greatest_height};
+ghost use Rattle.mp_decl.specs.Grown.{grown};
 
 use crate::parts::items_of;
-use mp_file::{Atom, Factor, File, Item, Term};
+use mp_file::{Expression, File, Further, Item};
 use mp_syntax::Sign;
-use sqlite_items::Items;
 
 /// The greatest height of a side of an equation, but at most 2^64 - 1: how many nodes stand on the longest way down,
 /// where a sum or a product leans to the left, and a right side that is not written is 0 (modpath's own).
@@ -30,7 +28,7 @@ pub fn greatest_height(file: &File) -> u64
 /// No side of an equation is higher than its file has tokens, so that a file of less than 2^64 tokens has its height told
 /// exactly.
 pub fn heights_law()
-    ensures { (ts : List Tok) (file : List Statement) → Reads ts file → greatest_height file ≤ length ts }
+    ensures { (ts : List Tok) (file : List Statement) → ReadsFile ts file → greatest_height file ≤ length ts }
 {}
 
 // The greatest height of a side of these equations.
@@ -48,76 +46,55 @@ fn greatest_of(items: &[Item]) -> u64
 fn item_height(item: &Item) -> u64
     ensures { result ≡ min (greatest (map height (sides (item_of item.now)))) (2 ^ 64 - 1) }
 {
-    let left = sum_height(item.left.as_slice());
+    let left = expression_height(&item.left);
     let right = right_height(&item.right);
     left.max(right)
 }
 
 #[tactic(auto, unfolding(mp_declared::specs::Heights::height))]
-fn right_height(right: &Option<Items<Term>>) -> u64
+fn right_height(right: &Option<Expression>) -> u64
     ensures { result ≡ min (height (right_side (option_map expr_of right.now))) (2 ^ 64 - 1) }
 {
     match right {
         None => 1,
-        Some(terms) => sum_height(terms.as_slice()),
+        Some(right) => expression_height(right),
     }
 }
 
 #[cycle(tower)]
 #[tactic(auto, unfolding(mp_declared::specs::Heights::height))]
-fn atom_height(atom: &Atom) -> u64
-    ensures { result ≡ min (height (atom_of atom.now)) (2 ^ 64 - 1) }
+fn expression_height(expression: &Expression) -> u64
+    ensures { result ≡ min (height (expr_of expression.now)) (2 ^ 64 - 1) }
 {
-    match atom {
-        Atom::Number { .. } => 1,
-        Atom::Variable { .. } => 1,
-        Atom::Paren { sum } => sum_height(sum.as_slice()),
-        Atom::Least { first, second } => {
-            let x = sum_height(first.as_slice());
-            let y = sum_height(second.as_slice());
-            above(x, y)
+    match expression {
+        Expression::Number { .. } => 1,
+        Expression::Variable { .. } => 1,
+        Expression::Shifted { .. } => 1,
+        Expression::Signed { sign, operand } => {
+            signed_height(*sign, expression_height(operand.get()))
         }
-        Atom::Greatest { first, second } => {
-            let x = sum_height(first.as_slice());
-            let y = sum_height(second.as_slice());
-            above(x, y)
+        Expression::Chain { first, more } => {
+            further_height(expression_height(first.get()), more.as_slice())
         }
-    }
-}
-
-#[cycle(tower)]
-fn factor_height(factor: &Factor) -> u64
-    ensures { result ≡ min (height (factor_of factor.now).power) (2 ^ 64 - 1) }
-{
-    match factor {
-        Factor::Plain { sign, base, .. } => signed_height(*sign, atom_height(base)),
-        Factor::Raised { sign, base, .. } => {
-            let power = above(atom_height(base), 0);
-            signed_height(*sign, power)
+        Expression::Power { base, .. } => above(expression_height(base.get()), 0),
+        Expression::Paren { inside } => expression_height(inside.get()),
+        Expression::Call { first, second, .. } => {
+            let first = expression_height(first.get());
+            above(first, expression_height(second.get()))
         }
     }
 }
 
+// The height so far, grown by these operands.
 #[cycle(tower)]
-fn product_height(factors: &[Factor]) -> u64
-    ensures { result ≡ min (height (product_of (map factor_of factors.now))) (2 ^ 64 - 1) }
+fn further_height(first: u64, more: &[Further]) -> u64
+    ensures { result ≡ min (grown first (map further_of more.now)) (2 ^ 64 - 1) }
 {
-    let mut tall = None;
-    'turns: for factor in factors {
-        tall = Some(next_height(tall, factor_height(factor)));
+    let mut tall = first;
+    'turns: for next in more {
+        tall = above(tall, expression_height(&next.operand));
     }
-    or_one(tall)
-}
-
-#[cycle(tower)]
-fn sum_height(terms: &[Term]) -> u64
-    ensures { result ≡ min (height (expr_of terms.now)) (2 ^ 64 - 1) }
-{
-    let mut tall = None;
-    'turns: for term in terms {
-        tall = Some(next_height(tall, product_height(term.factors.as_slice())));
-    }
-    or_one(tall)
+    tall
 }
 
 // One node above two others.
@@ -128,32 +105,11 @@ fn above(x: u64, y: u64) -> u64
 }
 
 // The height with the sign before it.
-fn signed_height(sign: Option<Sign>, height: u64) -> u64
-    ensures { result ≡ min (height_by sign height) (2 ^ 64 - 1) }
+fn signed_height(sign: Sign, height: u64) -> u64
+    ensures { result ≡ min (signed_height sign height) (2 ^ 64 - 1) }
 {
     match sign {
-        Some(Sign::Minus) => above(height, 0),
-        Some(Sign::Plus) => height,
-        None => height,
-    }
-}
-
-// The height so far with one more part.
-fn next_height(tall: Option<u64>, height: u64) -> u64
-    ensures { result ≡ min (next_height tall height) (2 ^ 64 - 1) }
-{
-    match tall {
-        None => height,
-        Some(so_far) => above(so_far, height),
-    }
-}
-
-// The height of what has at least one part. What has none, as no text, is a number.
-fn or_one(tall: Option<u64>) -> u64
-    ensures { result ≡ min (grown tall []) (2 ^ 64 - 1) }
-{
-    match tall {
-        None => 1,
-        Some(height) => height.min(u64::MAX),
+        Sign::Plus => height,
+        Sign::Minus => above(height, 0),
     }
 }

@@ -7,7 +7,7 @@ ghost use Rattle.mp_file.specs.Shown.{statement_of};
 ghost use Rattle.mp_declared.specs.Declared.{is_missing, read_early, assigned_in};
 ghost use Rattle.mp_decl.specs.Values.{early_in};
 
-use crate::find::find_in_sum;
+use crate::find::find_in;
 use crate::search::{Reader, Search};
 use mp_base::NoMemory;
 use mp_file::Statement;
@@ -39,7 +39,7 @@ fn read_early<'t>(given: &NameList<'t>, statement: &Statement<'t>) -> Option<&'t
     let Statement::Assigns { value, .. } = statement else {
         return None;
     };
-    match find_in_sum(&Search::Missing(given), Reader::Constant, value.as_slice()) {
+    match find_in(&Search::Missing(given), Reader::Constant, value) {
         Some(read) => Some(read.name.name),
         None => None,
     }

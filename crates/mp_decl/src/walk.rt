@@ -9,10 +9,10 @@ ghost use Rattle.mp_decl.specs.Walk.{walked_by};
 ghost use Rattle.mp_decl.specs.Walks.{Went, Walks};
 
 use crate::fault::DeclFault;
-use crate::find::{find_in_items, find_in_sum};
+use crate::find::{find_in, find_in_items};
 use crate::known::Known;
 use crate::search::{Read, Reader, Search};
-use mp_file::{Item, Named, Statement, Term};
+use mp_file::{Expression, Item, Named, Statement};
 use mp_statements::NameKind;
 
 pub(crate) fn walk<'t>(known: &mut Known<'t>, statements: &[Statement<'t>]) -> Result<(), DeclFault>
@@ -29,7 +29,7 @@ fn walk_statement<'t>(known: &mut Known<'t>, statement: &Statement<'t>) -> Resul
 {
     match statement {
         Statement::Declares { kind, names } => declare_names(known, *kind, names.as_slice()),
-        Statement::Assigns { name, value } => walk_assignment(known, name, value.as_slice()),
+        Statement::Assigns { name, value } => walk_assignment(known, name, value),
         Statement::Model { at, items } => {
             known.begin(*at)?;
             walk_items(known, items.as_slice())
@@ -53,14 +53,14 @@ fn declare_names<'t>(
 fn walk_assignment<'t>(
     known: &Known<'t>,
     name: &Named<'t>,
-    value: &[Term<'t>],
+    value: &Expression<'t>,
 ) -> Result<(), DeclFault>
     ensures { Walks result known.now known.now (Assigned (named_of name.now) ∷ reads p.Constant (expr_of value.now)) }
 {
     known.assign(name)?;
     refused(
         known,
-        find_in_sum(&Search::Faulty(known), Reader::Constant, value),
+        find_in(&Search::Faulty(known), Reader::Constant, value),
     )
 }
 

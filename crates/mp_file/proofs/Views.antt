@@ -39,7 +39,7 @@ pub signed_is : {e x a : Expression} {sign : Sign} → e ≡ Signed sign a → x
 signed_is {a = a} {sign = sign} is one = ap expr_of is ∙ signed_view sign a ∙ ap (λ y. s.Signed sign (expr_of y)) (sym one)
 
 pub chain_is : {e x a : Expression} {xs more : List Further} → e ≡ Chain a more → x ≡ a → xs ≡ more → expr_of e ≡ s.with_further (expr_of x) (map further_of xs)
-chain_is {a = a} {xs = xs} {more = more} is one rest = ap expr_of is ∙ chain_view a more ∙ ap (λ y. s.with_further (expr_of y) (map further_of more)) (sym one) ∙ ap (λ l. s.with_further _ (map further_of l)) (sym rest)
+chain_is {x = x} {a = a} {xs = xs} {more = more} is one rest = ap expr_of is ∙ chain_view a more ∙ ap (λ y. s.with_further (expr_of y) (map further_of more)) (sym one) ∙ ap (λ l. s.with_further (expr_of x) (map further_of l)) (sym rest)
 
 pub paren_is : {e x a : Expression} → e ≡ Paren a → x ≡ a → expr_of e ≡ s.Paren (expr_of x)
 paren_is {a = a} is one = ap expr_of is ∙ paren_view a ∙ ap (λ y. s.Paren (expr_of y)) (sym one)

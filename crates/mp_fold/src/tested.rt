@@ -51,6 +51,7 @@ fn expression_exponents<'t>(table: &Table<'t>, expression: &Expression<'t>) -> T
     match expression {
         Expression::Number { .. } => Ok(()),
         Expression::Variable { .. } => Ok(()),
+        Expression::Shifted { .. } => Ok(()),
         Expression::Signed { operand, .. } => expression_exponents(table, operand.get()),
         Expression::Chain { first, more } => {
             let x = expression_exponents(table, first.get());

@@ -21,7 +21,8 @@ pub fn value_of<'t>(table: &Table<'t>, expression: &Expression<'t>) -> Value<'t>
 {
     match expression {
         Expression::Number { literal, at } => literal_value(literal, *at),
-        Expression::Variable { name, .. } => known_value(table, name),
+        Expression::Variable { name } => known_value(table, name),
+        Expression::Shifted { name, .. } => known_value(table, name),
         Expression::Signed { sign, operand } => signed(*sign, value_of(table, operand.get())),
         Expression::Chain { first, more } => {
             further_value(table, value_of(table, first.get()), more.as_slice())

@@ -1,3 +1,4 @@
 pub mod Kept
 pub mod Examples
 pub mod Printed
+pub mod Texts

@@ -1,5 +1,5 @@
 -- The canonical text of the example of values.
-use Rattle.std.proofs.Common.{◌≡◌, [], ◌∷◌, ◌++◌, refl, ap, ◌∙◌, codes}
+use Rattle.std.proofs.Common.{◌≡◌, ℕ, List, [], ◌∷◌, ◌++◌, refl, ap, ◌∙◌, codes}
 use Rattle.mp_syntax.specs.Syntax.{Expr}
 use Rattle.mp_statements.specs.declared.kind.NameKind.TheVariants as kind
 use Rattle.mp_statements.specs.Statements.{Statement, Assigns}
@@ -15,7 +15,7 @@ use Rattle.mp_model.specs.Example.{values_model, values_printed}
 use Rattle.mp_model.proofs.Examples.{Ratios, three_halves}
 
 -- the text of the file where the parameter's value is written so
-abbrev text_with : Expr → _
+abbrev text_with : Expr → List ℕ
 text_with value =
     file_text (names_part kind.Endogenous values_model.endogenous_names ++ (names_part kind.Exogenous values_model.exogenous_names ++ (names_part kind.Parameter (codes "a" ∷ []) ++ ((Assigns (unplaced (codes "a")) value ∷ []) ++ equations_part (model_names values_model) values_model.equations))))
 

@@ -1,15 +1,16 @@
 // The bytes of an expression.
-ghost use Rattle.std.specs.Prelude.{◌≡◌, ◌++◌, [], ◌∷◌, map, OnOk, option_map};
-ghost use Rattle.mp_spelling.specs.Spelled.{sign_byte, sign_bytes, spelled_shift, spelled};
-ghost use Rattle.mp_file.specs.Shown.{shift_of, atom_of, factor_of, product_of, expr_of};
-ghost use Rattle.mp_print.specs.Parts.{scale_if, sign_if};
+ghost use Rattle.std.specs.Prelude.{◌≡◌, ◌++◌, Some, map, OnOk};
+ghost use Rattle.std.specs.List.{flat_map};
+ghost use Rattle.mp_file.specs.Shown.{shift_of, expr_of, further_of};
+ghost use Rattle.mp_canonical.specs.Spelled.{sign_text, signs_text, shift_text, operator_text, function_text, spelled};
+ghost use Rattle.mp_print.specs.Parts.{further_text};
 
 use mp_base::{Bytes, NoMemory};
-use mp_file::{Atom, Factor, Shift, Term};
-use mp_syntax::{Scale, Sign};
+use mp_file::{Expression, Further, Shift};
+use mp_syntax::{Function, Operator, Sign};
 
 fn put_sign(out: &mut Bytes, sign: Sign) -> Result<(), NoMemory>
-    ensures { OnOk result (out.new ≡ out.old ++ sign_byte sign ∷ []) }
+    ensures { OnOk result (out.new ≡ out.old ++ sign_text sign) }
 {
     match sign {
         Sign::Plus => out.add(b"+"),
@@ -19,7 +20,7 @@ fn put_sign(out: &mut Bytes, sign: Sign) -> Result<(), NoMemory>
 
 // A sign, where there is one.
 fn put_signs(out: &mut Bytes, sign: Option<Sign>) -> Result<(), NoMemory>
-    ensures { OnOk result (out.new ≡ out.old ++ sign_bytes sign) }
+    ensures { OnOk result (out.new ≡ out.old ++ signs_text sign) }
 {
     match sign {
         None => Ok(()),
@@ -27,130 +28,95 @@ fn put_signs(out: &mut Bytes, sign: Option<Sign>) -> Result<(), NoMemory>
     }
 }
 
-// "(+k)" or "(-k)", where there is a shift.
-fn put_shift(out: &mut Bytes, shift: Option<Shift>) -> Result<(), NoMemory>
-    ensures { OnOk result (out.new ≡ out.old ++ spelled_shift (option_map shift_of shift.entry)) }
+// "(+k)" or "(-k)".
+fn put_shift(out: &mut Bytes, shift: &Shift) -> Result<(), NoMemory>
+    ensures { OnOk result (out.new ≡ out.old ++ shift_text (Some (shift_of shift.now))) }
 {
-    let Some(s) = shift else {
-        return Ok(());
-    };
     out.add(b"(")?;
-    put_sign(out, s.sign)?;
-    out.add(s.digits)?;
+    put_sign(out, shift.sign)?;
+    out.add(shift.digits)?;
     out.add(b")")
 }
 
-// The operator before a factor, which the first one has not.
-fn put_scale(out: &mut Bytes, begun: bool, scale: Scale) -> Result<(), NoMemory>
-    ensures { OnOk result (out.new ≡ out.old ++ scale_if begun scale) }
+fn put_operator(out: &mut Bytes, op: Operator) -> Result<(), NoMemory>
+    ensures { OnOk result (out.new ≡ out.old ++ operator_text op) }
 {
-    if !begun {
-        return Ok(());
-    }
-    match scale {
-        Scale::Times => out.add(b"*"),
-        Scale::Over => out.add(b"/"),
+    match op {
+        Operator::Plus => out.add(b"+"),
+        Operator::Minus => out.add(b"-"),
+        Operator::Times => out.add(b"*"),
+        Operator::Over => out.add(b"/"),
     }
 }
 
-// The operator before a term, which the first one has not.
-fn put_plus(out: &mut Bytes, begun: bool, sign: Sign) -> Result<(), NoMemory>
-    ensures { OnOk result (out.new ≡ out.old ++ sign_if begun sign) }
+fn put_function(out: &mut Bytes, function: Function) -> Result<(), NoMemory>
+    ensures { OnOk result (out.new ≡ out.old ++ function_text function) }
 {
-    if begun { put_sign(out, sign) } else { Ok(()) }
-}
-
-fn scale_of(factor: &Factor) -> Scale
-    ensures { result ≡ (factor_of factor.now).scale }
-{
-    match factor {
-        Factor::Plain { scale, .. } => *scale,
-        Factor::Raised { scale, .. } => *scale,
+    match function {
+        Function::Min => out.add(b"min"),
+        Function::Max => out.add(b"max"),
     }
 }
 
 #[cycle(writer)]
-#[tactic(auto, unfolding(mp_spelling::specs::Spelled::spelled))]
-fn put_atom(out: &mut Bytes, atom: &Atom) -> Result<(), NoMemory>
-    ensures { OnOk result (out.new ≡ out.old ++ spelled (atom_of atom.now)) }
+#[tactic(auto, unfolding(mp_canonical::specs::Spelled::spelled))]
+pub(crate) fn put_expression(out: &mut Bytes, expression: &Expression) -> Result<(), NoMemory>
+    ensures { OnOk result (out.new ≡ out.old ++ spelled (expr_of expression.now)) }
 {
-    match atom {
-        Atom::Number { literal, .. } => out.add(literal),
-        Atom::Variable { name, shift } => {
+    match expression {
+        Expression::Number { literal, .. } => out.add(literal),
+        Expression::Variable { name } => out.add(name.name),
+        Expression::Shifted { name, shift } => {
             out.add(name.name)?;
-            put_shift(out, *shift)
+            put_shift(out, shift.get())
         }
-        Atom::Paren { sum } => {
-            out.add(b"(")?;
-            put_sum(out, sum.as_slice())?;
-            out.add(b")")
+        Expression::Signed { sign, operand } => {
+            put_sign(out, *sign)?;
+            put_expression(out, operand.get())
         }
-        Atom::Least { first, second } => {
-            out.add(b"min(")?;
-            put_sum(out, first.as_slice())?;
-            out.add(b",")?;
-            put_sum(out, second.as_slice())?;
-            out.add(b")")
+        Expression::Chain { first, more } => {
+            put_expression(out, first.get())?;
+            put_further(out, more.as_slice())
         }
-        Atom::Greatest { first, second } => {
-            out.add(b"max(")?;
-            put_sum(out, first.as_slice())?;
-            out.add(b",")?;
-            put_sum(out, second.as_slice())?;
-            out.add(b")")
-        }
-    }
-}
-
-// A factor without the operator before it.
-#[cycle(writer)]
-#[tactic(auto, unfolding(mp_spelling::specs::Spelled::spelled))]
-fn put_power(out: &mut Bytes, factor: &Factor) -> Result<(), NoMemory>
-    ensures { OnOk result (out.new ≡ out.old ++ spelled (factor_of factor.now).power) }
-{
-    match factor {
-        Factor::Plain { sign, base, .. } => {
-            put_signs(out, *sign)?;
-            put_atom(out, base)
-        }
-        Factor::Raised {
-            sign,
+        Expression::Power {
             base,
-            exponent_sign,
+            sign,
             exponent,
             ..
         } => {
-            put_signs(out, *sign)?;
-            put_atom(out, base)?;
+            put_expression(out, base.get())?;
             out.add(b"^")?;
-            put_signs(out, *exponent_sign)?;
-            put_atom(out, exponent)
+            put_signs(out, *sign)?;
+            put_expression(out, exponent.get())
+        }
+        Expression::Paren { inside } => {
+            out.add(b"(")?;
+            put_expression(out, inside.get())?;
+            out.add(b")")
+        }
+        Expression::Call {
+            function,
+            first,
+            second,
+        } => {
+            put_function(out, *function)?;
+            out.add(b"(")?;
+            put_expression(out, first.get())?;
+            out.add(b",")?;
+            put_expression(out, second.get())?;
+            out.add(b")")
         }
     }
 }
 
+// Operators with the operands after them.
 #[cycle(writer)]
-fn put_product(out: &mut Bytes, factors: &[Factor]) -> Result<(), NoMemory>
-    ensures { OnOk result (out.new ≡ out.old ++ spelled (product_of (map factor_of factors.now))) }
+fn put_further(out: &mut Bytes, more: &[Further]) -> Result<(), NoMemory>
+    ensures { OnOk result (out.new ≡ out.old ++ flat_map further_text (map further_of more.now)) }
 {
-    let mut begun = false;
-    'turns: for factor in factors {
-        put_scale(out, begun, scale_of(factor))?;
-        put_power(out, factor)?;
-        begun = true;
-    }
-    Ok(())
-}
-
-#[cycle(writer)]
-pub(crate) fn put_sum(out: &mut Bytes, terms: &[Term]) -> Result<(), NoMemory>
-    ensures { OnOk result (out.new ≡ out.old ++ spelled (expr_of terms.now)) }
-{
-    let mut begun = false;
-    'turns: for term in terms {
-        put_plus(out, begun, term.sign)?;
-        put_product(out, term.factors.as_slice())?;
-        begun = true;
+    'turns: for next in more {
+        put_operator(out, next.op)?;
+        put_expression(out, &next.operand)?;
     }
     Ok(())
 }

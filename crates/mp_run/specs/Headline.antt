@@ -5,7 +5,7 @@ use Rattle.mp_base.specs.declared.job.Job.{Job}
 use Rattle.mp_base.specs.declared.job.Job.TheVariants as j
 use Rattle.mp_tokens.specs.Tokens.{Tok, tokens}
 use Rattle.mp_statements.specs.Statements.{Statement}
-use Rattle.mp_syntax.specs.Grammar.{Reads}
+use Rattle.mp_grammar.specs.Grammar.{ReadsFile}
 use Rattle.mp_model.specs.Headline.{KeepsSolutions}
 use Rattle.mp_outside.specs.Outside.{Held, Listing, gained}
 use Rattle.mp_words.specs.Words.{Request, request_of}
@@ -17,7 +17,7 @@ pub record Keeps (text written : List ℕ) : Type 0 where
   pub ts : List Tok
   pub file : List Statement
   pub lexed : tokens text ≡ Ok ts
-  pub reads : Reads ts file
+  pub reads : ReadsFile ts file
   pub keeps : KeepsSolutions file written
 
 -- what `transform` writes keeps the solutions of the expanded text

@@ -31,10 +31,19 @@ expansion_step (Ok text) = Ok text
 expansion_step (Err (Macro kind file line)) = Err (o.Macro kind file line)
 expansion_step (Err (Absent name)) = Err (o.Absent name)
 
+-- a job that is not built is asked for by no word
+abbrev pub unbuilt : Step (List ℕ)
+unbuilt = Err (o.Words 1)
+
 -- what a job makes of the expanded text
 abbrev pub job_gives : Job → List ℕ → Step (List ℕ)
 job_gives j.Expand text = Ok text
-job_gives _ text = text_gives text
+job_gives j.Transform text = text_gives text
+job_gives j.Derive text = unbuilt
+job_gives j.Solve text = unbuilt
+job_gives j.Occbin text = unbuilt
+job_gives j.Check text = unbuilt
+job_gives j.Sample text = unbuilt
 
 -- the first refusal, or the bytes of what is asked for
 abbrev pub request_gives : Listing → Request → Step (List ℕ)

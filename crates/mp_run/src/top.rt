@@ -7,6 +7,7 @@ ghost use Rattle.mp_transform.specs.Steps.{Says, TextShows};
 ghost use Rattle.mp_run.specs.Verdict.{job_gives, run_gives};
 ghost use Rattle.mp_run.specs.Answers.{SaysFiles, ShowsCause, EndsEarly, AsVerdict, Complete, ShowsSink, IsDone, Writes, WritesResult};
 ghost use Rattle.mp_run.specs.Headline.{WritesSameSolutions};
+ghost use Rattle.mp_run.specs.Wrong.{TellsWrongToken};
 
 use crate::expanding::expanded;
 use mp_base::{Bytes, Job, Outcome, Steps, WordList};
@@ -29,6 +30,8 @@ pub fn run<F: Files, O: Sink, E: Sink, L: Ledger>(
     ensures verdict { AsVerdict (F.outside files.old).listing words.now (O.held out.old) (O.held out.new) result }
     ensures complete { Complete words.now (F.outside files.old) (F.outside files.new) (O.held out.old) (O.held out.new) result }
     ensures result { WritesResult (F.outside files.old).listing words.now (O.held out.old) (O.held out.new) result }
+    // The first wrong token is told exactly.
+    ensures wrong_token { TellsWrongToken (F.outside files.old).listing words.now result }
     // A path solves what is written exactly when it solves what was read.
     ensures headline { WritesSameSolutions (F.outside files.old).listing words.now (O.held out.old) (O.held out.new) result }
 
@@ -105,6 +108,9 @@ fn done(alloc: Global, job: Job, text: Bytes) -> Result<Bytes, Outcome>
 {
     match job {
         Job::Expand => Ok(text),
-        _ => mp_transform::transformed(alloc, text.as_slice()),
+        Job::Transform => mp_transform::transformed(alloc, text.as_slice()),
+        Job::Derive | Job::Solve | Job::Occbin | Job::Check | Job::Sample => {
+            Err(Outcome::Words { word: 1 })
+        }
     }
 }

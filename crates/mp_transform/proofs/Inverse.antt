@@ -5,14 +5,13 @@ use Rattle.mp_base.specs.declared.outcome.Outcome.TheVariants as o
 use Rattle.mp_base.specs.declared.kinds.DataKind.TheVariants as d
 use Rattle.mp_tokens.specs.Tokens.{Tok, Fault, BadByte, LongName, OpenComment, OpenText, tokens}
 use Rattle.mp_statements.specs.Statements.{Statement}
-use Rattle.mp_syntax.specs.Grammar.{Reads}
-use Rattle.mp_reading.specs.Reading.{file_read}
+use Rattle.mp_grammar.specs.Grammar.{ReadsFile, file_read}
 use Rattle.mp_declared.specs.Heights.{greatest_height}
 use Rattle.mp_declared.specs.Shifts.{far_shift}
 use Rattle.mp_semantics.specs.Model.{Model}
-use Rattle.mp_values.specs.ModelOf.{model_of}
-use Rattle.mp_values.specs.Folded.{Folded, model_given}
-use Rattle.mp_spelling.specs.Printed.{printed_model}
+use Rattle.mp_values.specs.Limits.{Folded}
+use Rattle.mp_values.specs.ModelOf.{model_given, model_of}
+use Rattle.mp_canonical.specs.Files.{canonical_text}
 use Rattle.mp_model.specs.Headline.{KeepsSolutions}
 use Rattle.mp_decl.specs.Given.{declared_given}
 use Rattle.mp_transform.specs.Steps.{Step, and_then, whole}
@@ -76,15 +75,15 @@ came text M e =
     }
 
 -- the bytes that a text gives are its canonical text
-pub canonical : ((ts : List Tok) (file : List Statement) → file_read ts ≡ Ok file → Reads ts file)
+pub canonical : ((ts : List Tok) (file : List Statement) → file_read ts ≡ Ok file → ReadsFile ts file)
     → ((file : List Statement) (M : Model) → model_given file ≡ Ok M → model_of file ≡ Some M)
-    → ((text : List ℕ) (ts : List Tok) (file : List Statement) (M : Model) → tokens text ≡ Ok ts → Reads ts file → model_given file ≡ Ok M → greatest_height file ≤ 500 → KeepsSolutions file (printed_model M))
+    → ((text : List ℕ) (ts : List Tok) (file : List Statement) (M : Model) → tokens text ≡ Ok ts → ReadsFile ts file → model_given file ≡ Ok M → greatest_height file ≤ 500 → KeepsSolutions file (canonical_text M))
     → (text written : List ℕ) → text_gives text ≡ Ok written → IsCanonical text written
 canonical found means headline text written e =
-    let m = before (model_of_text text) (λ M. Ok (printed_model M)) written e in
+    let m = before (model_of_text text) (λ M. Ok (canonical_text M)) written e in
     let c = came text m.0 m.1 in
     let reads = found c.ts c.file c.is_file in
-    let same : written ≡ printed_model m.0 = cc in
+    let same : written ≡ canonical_text m.0 = cc in
     record {
       ts = c.ts;
       file = c.file;

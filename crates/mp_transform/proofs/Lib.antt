@@ -3,3 +3,4 @@ pub mod Inverse
 pub mod Places
 pub mod Ratios
 pub mod ReadShifts
+pub mod WrongTokens

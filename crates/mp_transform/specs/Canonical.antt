@@ -2,10 +2,10 @@
 use Rattle.std.specs.Prelude.{◌≡◌, ℕ, List, Some, Ok}
 use Rattle.mp_tokens.specs.Tokens.{Tok, tokens}
 use Rattle.mp_statements.specs.Statements.{Statement}
-use Rattle.mp_syntax.specs.Grammar.{Reads}
+use Rattle.mp_grammar.specs.Grammar.{ReadsFile}
 use Rattle.mp_semantics.specs.Model.{Model}
 use Rattle.mp_values.specs.ModelOf.{model_of}
-use Rattle.mp_spelling.specs.Printed.{printed_model}
+use Rattle.mp_canonical.specs.Files.{canonical_text}
 use Rattle.mp_model.specs.Headline.{KeepsSolutions}
 
 -- these bytes are the canonical text of the model that the file means which the grammar reads from the tokens of the text; and a path solves them exactly when it solves that file
@@ -14,7 +14,7 @@ pub record IsCanonical (text written : List ℕ) : Type 0 where
   pub file : List Statement
   pub model : Model
   pub lexed : tokens text ≡ Ok ts
-  pub reads : Reads ts file
+  pub reads : ReadsFile ts file
   pub means : model_of file ≡ Some model
-  pub printed : written ≡ printed_model model
+  pub printed : written ≡ canonical_text model
   pub keeps : KeepsSolutions file written

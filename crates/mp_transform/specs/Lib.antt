@@ -1,3 +1,4 @@
 pub mod Canonical
 pub mod Steps
 pub mod Text
+pub mod Wrong

@@ -6,12 +6,13 @@ use Rattle.mp_base.specs.declared.kinds.TextKind.TheVariants as t
 use Rattle.mp_base.specs.declared.kinds.DataKind.TheVariants as d
 use Rattle.mp_tokens.specs.Tokens.{Tok, Fault, BadByte, LongName, OpenComment, OpenText, tokens}
 use Rattle.mp_statements.specs.Statements.{Statement}
-use Rattle.mp_reading.specs.Reading.{file_read}
+use Rattle.mp_grammar.specs.Grammar.{file_read}
 use Rattle.mp_declared.specs.Heights.{greatest_height}
 use Rattle.mp_declared.specs.Shifts.{far_shift}
 use Rattle.mp_semantics.specs.Model.{Model}
-use Rattle.mp_values.specs.Folded.{Folded, model_given}
-use Rattle.mp_spelling.specs.Printed.{printed_model}
+use Rattle.mp_values.specs.Limits.{Folded}
+use Rattle.mp_values.specs.ModelOf.{model_given}
+use Rattle.mp_canonical.specs.Files.{canonical_text}
 use Rattle.mp_decl.specs.Given.{declared_given, stuck_told}
 use Rattle.mp_transform.specs.Steps.{Step, and_then, whole}
 
@@ -66,4 +67,4 @@ model_of_text text = and_then (token_step (tokens text)) (tokens_give (length te
 
 -- its canonical text
 abbrev pub text_gives : List ℕ → Step (List ℕ)
-text_gives text = and_then (model_of_text text) (λ M. Ok (printed_model M))
+text_gives text = and_then (model_of_text text) (λ M. Ok (canonical_text M))

@@ -1,8 +1,7 @@
 // From a text to the file that its tokens read as.
 ghost use Rattle.std.specs.Prelude.{◌≡◌, ◌<◌, ◌≤◌, ◌-◌, ◌^◌, [], drop, length, take, IfOk, MatchResult};
 ghost use Rattle.mp_tokens.specs.Tokens.{tokens};
-ghost use Rattle.mp_syntax.specs.Grammar.{Reads};
-ghost use Rattle.mp_reading.specs.Reading.{file_read};
+ghost use Rattle.mp_grammar.specs.Grammar.{ReadsFile, file_read};
 ghost use Rattle.mp_declared.specs.Heights.{greatest_height};
 ghost use Rattle.mp_file.specs.Shown.{file_of};
 ghost use Rattle.mp_lex.specs.Shown.{tok_of};
@@ -49,7 +48,7 @@ fn wrong_byte(kind: TextKind, at: u32) -> Outcome
 pub(crate) fn parsed<'t>(alloc: Global, tokens: &Tokens<'t>, end: u32) -> Result<File<'t>, Outcome>
     requires { length tokens.now < 2 ^ 32 - 1 }
     ensures says { Says file_of (file_step end (file_read tokens.now)) result }
-    ensures found { IfOk result (λ f. Reads tokens.now (file_of f)) }
+    ensures found { IfOk result (λ f. ReadsFile tokens.now (file_of f)) }
     ensures low { IfOk result (λ f. greatest_height (file_of f) < 2 ^ 32) }
     ensures shows { MatchResult result (λ _. Unit {0}) TextShows }
     ensures reduced { MatchResult result (λ _. Unit {0}) HasReduced }

@@ -7,15 +7,17 @@ ghost use Rattle.mp_file.specs.Shown.{file_of};
 ghost use Rattle.mp_declared.specs.Heights.{greatest_height};
 ghost use Rattle.mp_declared.specs.Shifts.{far_shift};
 ghost use Rattle.mp_values.specs.Names.{names_of};
-ghost use Rattle.mp_values.specs.Folded.{values_given, model_given};
+ghost use Rattle.mp_values.specs.Values.{values_given};
+ghost use Rattle.mp_values.specs.ModelOf.{model_given};
 ghost use Rattle.mp_model_data.specs.Shown.{model_data};
-ghost use Rattle.mp_spelling.specs.Printed.{printed_model};
+ghost use Rattle.mp_canonical.specs.Files.{canonical_text};
 ghost use Rattle.mp_frac.specs.Value.{value_of};
 ghost use Rattle.mp_decl.specs.Given.{ratio_told, declared_given};
 ghost use Rattle.mp_tell.specs.Lines.{HasReduced};
 ghost use Rattle.mp_transform.specs.Steps.{Says, TextShows};
 ghost use Rattle.mp_transform.specs.Text.{shift_step, deep_step, model_step, limited, tested, text_gives};
 ghost use Rattle.mp_transform.specs.Canonical.{IsCanonical};
+ghost use Rattle.mp_transform.specs.Wrong.{IfWrongToken};
 
 use crate::reading::{lexed, parsed};
 use mp_base::{Bytes, DataKind, DeclKind, Label, Outcome, Ratio};
@@ -33,12 +35,14 @@ use std::alloc::Global;
 pub fn transformed(alloc: Global, text: &[u8]) -> Result<Bytes, Outcome>
     requires { length text.now < 2 ^ 32 - 1 }
     ensures says { Says (λ bytes. bytes) (text_gives text.now) result }
+    // The first wrong token is told exactly.
+    ensures wrong_token { MatchResult result (λ _. Unit {0}) (IfWrongToken text.now) }
     // A path solves what is written exactly when it solves what was read.
     ensures canonical { IfOk result (λ bytes. IsCanonical text.now bytes) }
     ensures shows { MatchResult result (λ _. Unit {0}) TextShows }
     ensures reduced { MatchResult result (λ _. Unit {0}) HasReduced }
 {
-    mp_reading::grammar_law();
+    mp_grammar::grammar_law();
     mp_values::limits_law();
     mp_model::headline_law();
     let bytes = printed_text(alloc, text)?;
@@ -221,7 +225,7 @@ fn refused(kind: DataKind, at: u32, first: Frac, second: Frac) -> Outcome
 
 // The canonical text of the model.
 fn printed(alloc: Global, model: &Model) -> Result<Bytes, Outcome>
-    ensures says { Says (λ bytes. bytes) (Ok (printed_model (model_data model.now))) result }
+    ensures says { Says (λ bytes. bytes) (Ok (canonical_text (model_data model.now))) result }
     ensures shows { MatchResult result (λ _. Unit {0}) TextShows }
     ensures reduced { MatchResult result (λ _. Unit {0}) HasReduced }
 {

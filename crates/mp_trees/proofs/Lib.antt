@@ -1,4 +1,4 @@
 pub mod Bound
 pub mod Digits
 pub mod Entries
-pub mod Sums
+pub mod Chains

@@ -1,4 +1,3 @@
 pub mod Faults
 pub mod Gives
-pub mod Joined
 pub mod Parts

@@ -1,10 +1,10 @@
 // The tree of a number or of a name.
 ghost use Rattle.std.specs.Prelude.{◌≡◌, ◌≤ℤ◌, pos, unsigned_abs, option_map};
 ghost use Rattle.mp_tokens.specs.Literals.{number_of};
-ghost use Rattle.mp_file.specs.Shown.{shift_of, named_of};
+ghost use Rattle.mp_file.specs.Shown.{shift_of as named_shift, named_of};
 ghost use Rattle.mp_expr.specs.Shown.{term_of};
-ghost use Rattle.mp_values.specs.Names.{along, named_term};
-ghost use Rattle.mp_values.specs.UNKNOWN.{shift_given};
+ghost use Rattle.mp_values.specs.Names.{along, named_term, shift_of};
+ghost use Rattle.mp_values.specs.Limits.{limited};
 ghost use Rattle.mp_trees.specs.Gives.{Gives, IsFarLiteral, same, up_to_limit};
 ghost use Rattle.mp_trees.specs.Parts.{number_given, name_given};
 
@@ -53,7 +53,7 @@ pub(crate) fn name_tree<'t>(
     shift: Option<Shift<'t>>,
     names: &Names<'t>,
 ) -> Result<Tree, ModelFault<'t>>
-    ensures { Gives term_of result (name_given names.now (named_of name.entry) (option_map shift_of shift.entry)) }
+    ensures { Gives term_of result (name_given names.now (named_of name.entry) (option_map named_shift shift.entry)) }
 {
     let shift = periods(name.at, shift)?;
     match found_tree(name.name, shift, names) {
@@ -82,7 +82,7 @@ fn found_tree(name: &[u8], shift: i16, names: &Names) -> Option<Tree>
 
 // How many periods ahead the name at this place is shifted; less than 0 is back.
 fn periods<'t>(at: u32, shift: Option<Shift<'t>>) -> Result<i16, ModelFault<'t>>
-    ensures { Gives same result (shift_given at (option_map shift_of shift.entry)) }
+    ensures { Gives same result (limited.shift at (shift_of (option_map named_shift shift.entry))) }
 {
     let Some(shift) = shift else {
         return Ok(0);

@@ -8,14 +8,13 @@ ghost use Rattle.mp_values.specs.ModelOf.{right_given, equation_given, each};
 ghost use Rattle.mp_trees.specs.Gives.{Gives};
 ghost use Rattle.mp_trees.specs.Parts.{after_these};
 
+use crate::expression::tree_of;
 use crate::fault::ModelFault;
-use crate::sum::sum_tree;
 use mp_base::NoMemory;
 use mp_expr::Tree;
-use mp_file::{File, Item, Statement, Term};
+use mp_file::{Expression, File, Item, Statement};
 use mp_model_data::Sides;
 use mp_names::{Names, Table};
-use sqlite_items::Items;
 use std::alloc::{AllocError, Global};
 
 /// The trees of both sides of an equation: a name has its number among these names, from 1, and an exponent is the whole
@@ -29,7 +28,7 @@ pub fn sides_of<'t>(
 ) -> Result<Sides, ModelFault<'t>>
     ensures { Gives equation_of result (equation_given names.now table.now (item_of item.now)) }
 {
-    let left = sum_tree(alloc, item.left.as_slice(), names, table)?;
+    let left = tree_of(alloc, &item.left, names, table)?;
     let right = right_tree(alloc, &item.right, names, table)?;
     Ok(Sides { left, right })
 }
@@ -37,7 +36,7 @@ pub fn sides_of<'t>(
 // The tree of a right side.
 fn right_tree<'t>(
     alloc: Global,
-    right: &Option<Items<Term<'t>>>,
+    right: &Option<Expression<'t>>,
     names: &Names<'t>,
     table: &Table<'t>,
 ) -> Result<Tree, ModelFault<'t>>
@@ -45,7 +44,7 @@ fn right_tree<'t>(
 {
     match right {
         None => Ok(Tree::Num { m: 0, s: 0 }),
-        Some(terms) => sum_tree(alloc, terms.as_slice(), names, table),
+        Some(right) => tree_of(alloc, right, names, table),
     }
 }
 

@@ -25,7 +25,8 @@ pub fn model<'t>(
     names: &Names<'t>,
     table: &Table<'t>,
 ) -> Result<Model<'t>, ModelFault<'t>>
-    ensures { names.now ≡ names_of (file_of file.now) → Gives model_data result (model_at (file_of file.now) table.now) }
+    requires names { names.now ≡ names_of (file_of file.now) }
+    ensures { Gives model_data result (model_at (file_of file.now) table.now) }
 {
     let parameters = parameters_of(alloc, table)?;
     let equations = sides_of_file(alloc, file, names, table)?;

@@ -3,9 +3,9 @@
 
 pub mod atom;
 pub mod equation;
+pub mod expression;
 pub mod fault;
 pub mod file;
-pub mod sum;
 
 pub use equation::sides_of;
 pub use fault::ModelFault;

@@ -1,47 +1,43 @@
-use Rattle.std.proofs.Common.{ℕ, ◌-◌, ◌+◌, ◌^◌, min, map, ap, ◌∙◌, arith}
-use Rattle.mp_file.specs.Shown.{atom_of, factor_of, product_of, term_of}
+use Rattle.std.proofs.Common.{ℕ, ◌-◌, ◌^◌, min, map, refl, sym, ap, ◌∙◌, arith}
+use Rattle.mp_file.specs.Shown.{expr_of, further_of}
+use Rattle.mp_file.proofs.Views.{signed_is, chain_is, power_is, paren_is, call_is}
 use Rattle.mp_declared.specs.Heights.{height}
-use Rattle.mp_decl.proofs.HeightLaws.{height-factors, height-terms, height-paren, height-least, height-greatest, height-plain, height-raised, capped-by, capped_once, grown_turn}
+use Rattle.mp_decl.proofs.HeightLaws.{height_signed, height_chain, height_power, height_paren, height_call, capped_sign, capped_grown, grown_turn, grown_end}
 use Rattle.mp_decl.proofs.heights.+tower.Goals as goal
 
 abbrev most : ℕ
 most = 2 ^ 64 - 1
 
-pub atom_height-returns-in-Paren : goal.atom_height-returns-in-Paren
-atom_height-returns-in-Paren t c = c.sum_height.ensures ∙ ap (λ (n : ℕ). min n most) (height-paren c.args.atom.now c.in-Paren.sum c.as_slice.result.now c.in-Paren.is c.as_slice.ensures)
+pub expression_height-returns-in-Signed : goal.expression_height-returns-in-Signed
+expression_height-returns-in-Signed t c =
+    c.signed_height.ensures ∙ capped_sign c.in-Signed.sign most _ _ c.expression_height.ensures
+    ∙ ap (λ (n : ℕ). min n most) (sym (ap height (signed_is c.in-Signed.is c.get.ensures) ∙ height_signed _ _))
 
-pub atom_height-returns-in-Least : goal.atom_height-returns-in-Least
-atom_height-returns-in-Least t c =
-    let e = height-least c.args.atom.now c.in-Least.first c.in-Least.second c.as_slice-in-Least.result.now c.as_slice-in-Least-2.result.now c.in-Least.is c.as_slice-in-Least.ensures c.as_slice-in-Least-2.ensures in
-    omega (arith, e, c.above.ensures, c.sum_height-x.ensures, c.sum_height-y.ensures)
+pub expression_height-returns-in-Chain : goal.expression_height-returns-in-Chain
+expression_height-returns-in-Chain t c =
+    let e = expr_of c.get-in-Chain.result.now in
+    let more = map further_of c.as_slice.result.now in
+    c.further_height.ensures ∙ capped_grown most c.expression_height-in-Chain.result (height e) more (omega (arith, c.expression_height-in-Chain.ensures))
+    ∙ ap (λ (n : ℕ). min n most) (sym (ap height (chain_is c.in-Chain.is c.get-in-Chain.ensures c.as_slice.ensures) ∙ height_chain e more))
 
-pub atom_height-returns-in-Greatest : goal.atom_height-returns-in-Greatest
-atom_height-returns-in-Greatest t c =
-    let e = height-greatest c.args.atom.now c.in-Greatest.first c.in-Greatest.second c.as_slice-in-Greatest.result.now c.as_slice-in-Greatest-2.result.now c.in-Greatest.is c.as_slice-in-Greatest.ensures c.as_slice-in-Greatest-2.ensures in
-    omega (arith, e, c.above-in-Greatest.ensures, c.sum_height-x-in-Greatest.ensures, c.sum_height-y-in-Greatest.ensures)
+pub expression_height-returns-in-Power : goal.expression_height-returns-in-Power
+expression_height-returns-in-Power t c =
+    let e = ap height (power_is c.in-Power.is c.get-in-Power.ensures refl) ∙ height_power _ _ _ _ in
+    omega (arith, e, c.above.ensures, c.expression_height-in-Power.ensures)
 
-pub factor_height-returns-in-Plain : goal.factor_height-returns-in-Plain
-factor_height-returns-in-Plain t c =
-    c.signed_height.ensures
-    ∙ capped-by c.in-Plain.sign most c.atom_height.result (height (atom_of c.in-Plain.base)) (omega (arith, c.atom_height.ensures))
-    ∙ ap (λ (n : ℕ). min n most) (height-plain c.args.factor.now _ _ c.in-Plain.sign c.in-Plain.base c.in-Plain.is)
+pub expression_height-returns-in-Paren : goal.expression_height-returns-in-Paren
+expression_height-returns-in-Paren t c =
+    c.expression_height-in-Paren.ensures ∙ ap (λ (n : ℕ). min n most) (sym (ap height (paren_is c.in-Paren.is c.get-in-Paren.ensures) ∙ height_paren _))
 
-pub factor_height-returns-in-Raised : goal.factor_height-returns-in-Raised
-factor_height-returns-in-Raised t c =
-    c.signed_height-in-Raised.ensures
-    ∙ capped-by c.in-Raised.sign most c.above-power.result (1 + height (atom_of c.in-Raised.base)) (omega (arith, c.above-power.ensures, c.atom_height-in-Raised.ensures))
-    ∙ ap (λ (n : ℕ). min n most) (height-raised c.args.factor.now _ _ _ c.in-Raised.sign _ c.in-Raised.base _ c.in-Raised.is)
+pub expression_height-returns-in-Call : goal.expression_height-returns-in-Call
+expression_height-returns-in-Call t c =
+    let e = ap height (call_is c.in-Call.is c.get-in-Call.ensures c.get-in-Call-2.ensures) ∙ height_call _ _ _ in
+    omega (arith, e, c.above-in-Call.ensures, c.expression_height-first.ensures, c.expression_height-in-Call.ensures)
 
-pub product_height-turns-init : goal.product_height-turns-init
-product_height-turns-init t c = ap (λ (n : ℕ). min n most) (height-factors c.args.factors.now)
+pub further_height-turns-preserved : goal.further_height-turns-preserved
+further_height-turns-preserved t c =
+    (grown_turn most c.args.more.now c.turns.next-index c.next-item.result c.next-item.result c.turns.tall c.expression_height.result _ _ c.turns-test.true c.next-item.is c.expression_height.ensures c.above-tall.ensures c.turns.invariant.0, omega (arith, c.above-tall.ensures))
 
-pub product_height-turns-preserved : goal.product_height-turns-preserved
-product_height-turns-preserved t c =
-    grown_turn (λ x. height (factor_of x).power) most c.args.factors.now c.turns.factor-index c.factor-item.result c.factor-item.result c.turns.tall c.factor_height.result _ _ c.turns-test.true c.factor-item.is (omega (arith, c.factor_height.ensures)) c.next_height.ensures c.turns.invariant
-
-pub sum_height-turns-init : goal.sum_height-turns-init
-sum_height-turns-init t c = ap (λ (n : ℕ). min n most) (height-terms c.args.terms.now)
-
-pub sum_height-turns-preserved : goal.sum_height-turns-preserved
-sum_height-turns-preserved t c =
-    grown_turn (λ x. height (term_of x).product) most c.args.terms.now c.turns.term-index c.term-item.result c.term-item.result c.turns.tall c.product_height.result _ _ c.turns-test.true c.term-item.is (capped_once most c.product_height.result _ (c.product_height.ensures ∙ ap (λ l. min (height (product_of (map factor_of l))) most) c.as_slice.ensures)) c.next_height.ensures c.turns.invariant
+pub further_height-returns : goal.further_height-returns
+further_height-returns t c =
+    omega (arith, grown_end most c.args.more.now c.turns.next-index c.turns.tall _ c.turns-test.false c.turns.invariant.0, c.turns.invariant.1)

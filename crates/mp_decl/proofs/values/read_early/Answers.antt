@@ -8,12 +8,12 @@ use Rattle.mp_decl.proofs.values.read_early.Goals as goal
 
 pub returns-in-Some : goal.returns-in-Some
 returns-in-Some c =
-    ap (option_map name_in) (rw c.as_slice.ensures at c.in-Some.ensures)
+    ap (option_map name_in) c.in-Some.ensures
     ∙ sym (names_read-find c.args.given.now (reads Constant (expr_of c.in-Assigns.value)))
     ∙ ap (λ (s : Statement). early_in c.args.given.now (statement_of s)) (sym c.in-Assigns.is)
 
 pub returns-in-None : goal.returns-in-None
 returns-in-None c =
-    ap (option_map name_in) (rw c.as_slice.ensures at c.in-None.ensures)
+    ap (option_map name_in) c.in-None.ensures
     ∙ sym (names_read-find c.args.given.now (reads Constant (expr_of c.in-Assigns.value)))
     ∙ ap (λ (s : Statement). early_in c.args.given.now (statement_of s)) (sym c.in-Assigns.is)

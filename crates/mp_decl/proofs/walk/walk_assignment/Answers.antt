@@ -12,4 +12,4 @@ returns c =
     let known = c.args.known.now in
     let value = reads Constant (expr_of c.args.value.now) in
     Walks-went c.refused.result known known known (Assigned (named_of c.args.name.now) ∷ []) value c.in_ok-assign.ensures
-    (subst (Went c.refused.result known) (ap (walked_by known) c.find_in_sum.ensures ∙ sym (walk-reads known value (all-reads Constant (expr_of c.args.value.now)))) c.refused.ensures)
+    (subst (Went c.refused.result known) (ap (walked_by known) c.find_in.ensures ∙ sym (walk-reads known value (all-reads Constant (expr_of c.args.value.now)))) c.refused.ensures)

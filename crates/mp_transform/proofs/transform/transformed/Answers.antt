@@ -1,4 +1,5 @@
 use Rattle.mp_transform.proofs.Inverse.{canonical}
+use Rattle.mp_transform.proofs.WrongTokens.{refused_shown}
 use Rattle.mp_transform.proofs.transform.transformed.Goals as goal
 
 pub returns-clause-canonical : goal.returns-clause-canonical

@@ -1,0 +1,139 @@
+-- A text whose refusal is of a token has tokens, and this is the first wrong one.
+use Rattle.std.proofs.Common.{◌≡◌, ℕ, suc, ◌-◌, List, [], ◌∷◌, length, drop, Option, Some, None, Result, Ok, Err, Bool, true, false, cond, nat_le, refl, sym, ap, ◌∙◌, subst, arith}
+use Rattle.mp_base.specs.declared.outcome.Outcome.{Outcome}
+use Rattle.mp_base.specs.declared.outcome.Outcome.TheVariants as o
+use Rattle.mp_base.specs.declared.kinds.TextKind.TheVariants as t
+use Rattle.mp_base.specs.declared.kinds.DataKind.TheVariants as d
+use Rattle.mp_tokens.specs.Tokens as lex
+use Rattle.mp_tokens.specs.Tokens.{Tok, BadByte, LongName, OpenComment, OpenText, tokens}
+use Rattle.mp_tokens.specs.Literals.{far_literal}
+use Rattle.mp_statements.specs.Statements.{Statement}
+use Rattle.mp_statements.specs.Parts.{equations_of}
+use Rattle.mp_grammar.specs.Grammar.{FirstWrong, file_read}
+use Rattle.mp_grammar.proofs.Wrong.{wrong_number}
+use Rattle.mp_declared.specs.Declared.{Fault}
+use Rattle.mp_declared.specs.Shifts.{far_shift}
+use Rattle.mp_declared.specs.Heights.{greatest_height}
+use Rattle.mp_semantics.specs.Model.{Model}
+use Rattle.mp_values.specs.Limits.{Stuck, Unvalued, Refused, Folded}
+use Rattle.mp_values.specs.Values.{values_given, all_exponents}
+use Rattle.mp_values.specs.ModelOf.{model_given}
+use Rattle.mp_canonical.specs.Files.{canonical_text}
+use Rattle.mp_decl.specs.Given.{stuck_told, unless_fault, unless_far, unless_stuck, values_told, declared_given}
+use Rattle.mp_transform.specs.Steps.{Step, and_then, whole, Refuses}
+use Rattle.mp_transform.specs.Text.{token_step, wrong_token, file_step, shift_step, deep_step, model_step, limited, tested, tokens_give, model_of_text, text_gives}
+use Rattle.mp_transform.specs.Wrong.{ShowsWrongToken, IfWrongToken}
+
+-- it refuses no tokens and no grammar
+abbrev IsLater : Outcome → Type 0
+IsLater (o.Text kind at token) = ⊥
+IsLater _ = Unit {0}
+
+abbrev Later : {X : Type 0} → Step X → Type 0
+Later (Ok x) = Unit {0}
+Later (Err outcome) = IsLater outcome
+
+stuck_later : (end : ℕ) (s : Stuck) → IsLater (stuck_told end s)
+stuck_later end (Unvalued name) = tt
+stuck_later end (Refused kind at first second) = tt
+
+fault_later : {A : Type 0} (x : Option Fault) (rest : Step A) → Later rest → Later (unless_fault x rest)
+fault_later None rest h = h
+fault_later (Some x) rest h = tt
+
+far_later : {A : Type 0} (x : Option ℕ) (rest : Step A) → Later rest → Later (unless_far x rest)
+far_later None rest h = h
+far_later (Some at) rest h = tt
+
+after_stuck : {A B : Type 0} (end : ℕ) (u : Folded A) (next : A → Step B) → ((x : A) → Later (next x)) → Later (unless_stuck end u next)
+after_stuck end (Ok x) next h = h x
+after_stuck end (Err s) next h = stuck_later end s
+
+and_later : {X Y : Type 0} (r : Step X) (next : X → Step Y) → Later r → ((x : X) → Later (next x)) → Later (and_then r next)
+and_later (Ok x) next h k = k x
+and_later (Err outcome) next h k = h
+
+shift_later : (x : Option (ℕ × ℕ)) → Later (shift_step x)
+shift_later None = tt
+shift_later (Some x) = tt
+
+deep_later : (tall : ℕ) → Later (deep_step tall)
+deep_later tall = by (nat_le tall 500)
+  where
+    by : (low : Bool) → Later (cond low (Ok tt) (Err (o.Data d.TooDeep 0 (whole tall) (whole 500))))
+    by true = tt
+    by false = tt
+
+model_later : (end : ℕ) (r : Folded Model) → Later (model_step end r)
+model_later end (Ok M) = tt
+model_later end (Err s) = stuck_later end s
+
+tested_later : (end : ℕ) (ts : List Tok) (file : List Statement) → Later (tested end ts file)
+tested_later end ts file =
+    and_later (declared_given end ts file) (λ _. limited end file)
+    (fault_later _ _ (far_later _ _ (after_stuck end (values_given file) _ (λ t. after_stuck end (all_exponents t (equations_of file)) _ (λ _. tt)))))
+    (λ _. and_later (shift_step (far_shift file)) _ (shift_later (far_shift file)) (λ _. and_later (deep_step (greatest_height file)) _ (deep_later (greatest_height file)) (λ _. model_later end (model_given file))))
+
+-- this outcome is a refusal of a token
+abbrev IsToken : Outcome → Type 0
+IsToken (o.Text t.Token at token) = Unit {0}
+IsToken _ = ⊥
+
+err_is : {X : Type 0} (x y : Outcome) → (let u : Step X = Err x in u ≡ Err y) → x ≡ y
+err_is x y e = cc
+
+-- no refusal of the tokens is
+lexed_never : (fault : lex.Fault) (outcome : Outcome) → token_step (Err fault) ≡ Err outcome → IsToken outcome → ⊥
+lexed_never (BadByte at) outcome e is = subst (λ (x : Outcome). IsToken x → ⊥) (err_is _ outcome e) (λ h. h) is
+lexed_never (LongName at) outcome e is = subst (λ (x : Outcome). IsToken x → ⊥) (err_is _ outcome e) (λ h. h) is
+lexed_never (OpenComment at) outcome e is = subst (λ (x : Outcome). IsToken x → ⊥) (err_is _ outcome e) (λ h. h) is
+lexed_never (OpenText at) outcome e is = subst (λ (x : Outcome). IsToken x → ⊥) (err_is _ outcome e) (λ h. h) is
+
+-- nor is a later one
+later_never : {X : Type 0} (r : Step X) (outcome : Outcome) → Later r → r ≡ Err outcome → IsToken outcome → ⊥
+later_never (Ok x) outcome h e is = absurd cc
+later_never (Err (o.Text kind at token)) outcome h e is = h
+later_never (Err y) outcome h e is = never y h (subst IsToken (sym (err_is y outcome e)) is)
+  where
+    never : (y : Outcome) → IsLater y → IsToken y → ⊥
+    never (o.Text t.Token at token) h is = h
+    never _ h is = is
+
+-- where the reading stops
+stops_at : (text : List ℕ) (ts left : List Tok) (outcome : Outcome) → tokens text ≡ Ok ts → file_read ts ≡ Err left → outcome ≡ wrong_token (length text) left → ShowsWrongToken text outcome
+stops_at text ts left outcome lexed e told =
+    let w = wrong_number ts left e in
+    let back : w.0 ≡ suc w.0 - 1 = omega arith in
+    record { ts = ts; index = suc w.0; lexed = lexed; first = w.3; told = told ∙ ap (wrong_token (length text)) (w.2 ∙ ap (λ n. drop n ts) back) }
+
+refused : (fault : lex.Fault) (ts : List Tok) → token_step (Err fault) ≡ Ok ts → ⊥
+refused (BadByte at) ts e = cc
+refused (LongName at) ts e = cc
+refused (OpenComment at) ts e = cc
+refused (OpenText at) ts e = cc
+
+shows_wrong : (text : List ℕ) (outcome : Outcome) → text_gives text ≡ Err outcome → IsToken outcome → ShowsWrongToken text outcome
+shows_wrong text outcome e is = by_tokens (tokens text) refl e
+  where
+    by_file : (ts : List Tok) → tokens text ≡ Ok ts → (r : Result (List Statement) (List Tok)) → file_read ts ≡ r → and_then (and_then (file_step (length text) r) (tested (length text) ts)) (λ M. Ok (canonical_text M)) ≡ Err outcome → ShowsWrongToken text outcome
+    by_file ts lexed (Ok file) read e = absurd (later_never (and_then (tested (length text) ts file) (λ M. Ok (canonical_text M))) outcome (and_later _ _ (tested_later (length text) ts file) (λ M. tt)) e is)
+    by_file ts lexed (Err left) read e = stops_at text ts left outcome lexed read (sym (err_is _ outcome e))
+
+    -- a refusal of the tokens goes through
+    stays : (fault : lex.Fault) (r : Step (List Tok)) → token_step (Err fault) ≡ r → and_then (and_then r (tokens_give (length text))) (λ M. Ok (canonical_text M)) ≡ Err outcome → token_step (Err fault) ≡ Err outcome
+    stays fault (Ok ts) same e = absurd (refused fault ts same)
+    stays fault (Err y) same e = same ∙ ap Err (err_is y outcome e)
+
+    by_tokens : (r : Result (List Tok) lex.Fault) → tokens text ≡ r → and_then (and_then (token_step r) (tokens_give (length text))) (λ M. Ok (canonical_text M)) ≡ Err outcome → ShowsWrongToken text outcome
+    by_tokens (Ok ts) lexed e = by_file ts lexed (file_read ts) refl e
+    by_tokens (Err fault) lexed e = absurd (lexed_never fault outcome (stays fault (token_step (Err fault)) refl e) is)
+
+-- a refusal of a token tells the first wrong one
+pub wrong_shown : (text : List ℕ) (outcome : Outcome) → text_gives text ≡ Err outcome → IfWrongToken text outcome
+wrong_shown text (o.Text t.Token at token) e = shows_wrong text (o.Text t.Token at token) e tt
+wrong_shown text _ e = tt
+
+-- the same of a step of the code that refuses what the definition does
+pub refused_shown : (text : List ℕ) (outcome : Outcome) → Refuses (text_gives text) outcome → IfWrongToken text outcome
+refused_shown text (o.Text t.Token at token) e = wrong_shown text (o.Text t.Token at token) e
+refused_shown text _ e = tt
