@@ -10,8 +10,7 @@ use std::rt::Env;
 const FIRST_ROOM: usize = 4_096;
 
 // The words after the program's name. The first one that isn't text is refused with its number, from 1.
-pub fn words_of(rt: &HostRuntime) -> Result<WordList, Refusal>
-{
+pub fn words_of(rt: &HostRuntime) -> Result<WordList, Refusal> {
     let mut words = WordList::new(rt.alloc());
     let mut buffer = vec![in rt.alloc(); 0u8; FIRST_ROOM].map_err(|_| Refusal::NoMemory)?;
     'words: for number in 1..u32::MAX {
