@@ -5,23 +5,26 @@ top=$(dirname -- "$(readlink -f -- "$0")")/..
 program=$top/crates/mp_bench_elim/out/mp_bench_elim
 [ -x "$program" ] || { echo "no program at $program: run rt run in crates/mp_bench_elim first" >&2; exit 1; }
 
-# the best of five runs, in seconds of the clock, and the greatest memory in MB
+# the best of five runs, in seconds of the clock and of the processor, and the greatest memory in MB
 measure() {
   what=$1
   shift
   python3 - "$what" "$program" "$@" <<'END'
-import resource, subprocess, sys, time
-best = None
+import os, subprocess, sys, time
+runs = []
 for turn in range(5):
     begun = time.perf_counter()
-    subprocess.run(sys.argv[2:], check=True, stdout=subprocess.DEVNULL)
-    taken = time.perf_counter() - begun
-    best = taken if best is None else min(best, taken)
-memory = resource.getrusage(resource.RUSAGE_CHILDREN).ru_maxrss / 1024
-print("%-52s %7.3f s %7.1f MB" % (sys.argv[1], best, memory))
+    child = subprocess.Popen(sys.argv[2:], stdout=subprocess.DEVNULL)
+    _, status, use = os.wait4(child.pid, 0)
+    if status != 0:
+        sys.exit("%s: status %d" % (sys.argv[1], status))
+    runs.append((time.perf_counter() - begun, use.ru_utime + use.ru_stime, use.ru_maxrss / 1024))
+clock, processor, memory = (min(run[k] for run in runs) for k in range(3))
+print("%-54s %7.3f s %7.3f s %7.1f MB" % (sys.argv[1], clock, processor, memory))
 END
 }
 
+echo "                                                           clock processor    memory"
 measure "full band, 500 periods of 22 rows" full 500 22
 measure "full band, 1,000 periods of 22 rows" full 1000 22
 measure "four to six entries a row, 500 periods of 22 rows" near 500 22
