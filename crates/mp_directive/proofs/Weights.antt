@@ -90,7 +90,7 @@ run-weight line zero ls = omega arith
 run-weight line (suc n) [] = omega arith
 run-weight line (suc n) (l ∷ ls) = omega (arith, run-weight (line + 1) n ls, line-weight line (d.content_of l) (run_before (line + 1) n ls Done))
 
-joined-weight : (ns ms : Nodes) → nodes_weight (joined ns ms) ≡ nodes_weight ns + nodes_weight ms
+pub joined-weight : (ns ms : Nodes) → nodes_weight (joined ns ms) ≡ nodes_weight ns + nodes_weight ms
 joined-weight Done ms = omega arith
 joined-weight (Then n ns) ms = omega (arith, joined-weight ns ms)
 

@@ -13,11 +13,11 @@ use Rattle.mp_directive.proofs.Trees.{nodes-first}
 use Rattle.mp_directive.proofs.Weights.{joined-weight}
 use Rattle.mp_macro.specs.States.{State, after_alone}
 use Rattle.mp_macro.specs.Expansion.{Refusal, Macro, Including, Step, at, after_node, after_nodes, include}
-use Rattle.mp_macro.specs.Says.{state_of, Makes, Placed, Says, SaysHere}
+use Rattle.mp_macro.specs.Says.{state_of, Makes, Placed, Told, Says, SaysHere}
 use Rattle.mp_macro.specs.declared.fault.Stop.{Stop}
 use Rattle.mp_macro.specs.declared.fault.Stop.TheVariants as s
 use Rattle.mp_macro.specs.declared.state.State as c
-use Rattle.mp_macro.proofs.Steps.{makes-refused}
+use Rattle.mp_macro.proofs.Steps.{makes-refused, says-after, stops}
 
 -- a step and then the next, regrouped
 regroup : (r : Step) (f g : State → Step) → ((r >>= f) >>= g) ≡ (r >>= λ x. f x >>= g)
@@ -60,6 +60,11 @@ module _ (including : Including) (file : List ℕ) where
       ∙ ap (λ ls. after_nodes including file (run_before line (suc (end - (line + 1))) ls Done) z) split
       ∙ line-first line (d.content_of here) (run_before (line + 1) (end - (line + 1)) (lines more) Done) z
 
+-- a line of a run that is carried out
+pub run-next : (including : Including) (file : List ℕ) (line end : ℕ) (rest here more : List ℕ) (z z' : State) (all : Step) → line < end → lines rest ≡ here ∷ lines more → after_alone (d.content_of here) z ≡ Ok z' → after_nodes including file (run_before line (end - line) (lines rest) Done) z ≡ all → after_nodes including file (run_before (line + 1) (end - (line + 1)) (lines more) Done) z' ≡ all
+run-next including file line end rest here more z z' all lt split made told =
+    sym (run-first including file line end rest here more z lt split ∙ ap (λ r. at file line r >>= after_nodes including file (run_before (line + 1) (end - (line + 1)) (lines more) Done)) made) ∙ told
+
 pub run-none : (line n : ℕ) (rest : List ℕ) → length rest ≡ 0 → run_before line n (lines rest) Done ≡ Done
 unfolding lines
 run-none line zero [] e = refl
@@ -86,3 +91,23 @@ here-says new a gives (Err s.NoMemory) h = tt
 -- the weight of the first node and of further ones
 pub first-weight : (x : Code) (xs : List Code) → nodes_weight (nodes_of (x ∷ xs)) ≡ nodes_weight (node_before x Done) + nodes_weight (nodes_of xs)
 first-weight x xs = ap nodes_weight (nodes-first x xs) ∙ joined-weight (node_before x Done) (nodes_of xs)
+
+-- one node more, or one that stops
+module _ (room : ℕ) (file : List ℕ) (a b : Outside) (x : Code) (more rest nodes : List Code) (z st : State) where
+  abbrev Told' : Type 0
+  Told' = (k : Listing) → a.listing ≡ Some k → after_nodes (include k room) file (nodes_of rest) st ≡ after_nodes (include k room) file (nodes_of nodes) z
+
+  abbrev first : Listing → Step
+  first l = after_nodes (include l room) file (node_before x Done) st
+
+  whole : rest ≡ x ∷ more → Told' → (k : Listing) → a.listing ≡ Some k → after_nodes (include k room) file (nodes_of nodes) z ≡ (first k >>= after_nodes (include k room) file (nodes_of more))
+  whole split told k is =
+      sym (told k is) ∙ ap (λ xs. after_nodes (include k room) file (nodes_of xs) st) split ∙ nodes-split (include k room) file x more st
+
+  pub nodes-next : (st' : State) → rest ≡ x ∷ more → Later a b → Told' → Told b first (Ok st') → (k : Listing) → a.listing ≡ Some k → after_nodes (include k room) file (nodes_of more) st' ≡ after_nodes (include k room) file (nodes_of nodes) z
+  nodes-next st' split later told says k is =
+      sym (whole split told k is ∙ ap (λ r. r >>= after_nodes (include k room) file (nodes_of more)) (says k (later.listing ∙ is)))
+
+  pub nodes-stop : (n : State) (d : Outside) (e : Stop) → rest ≡ x ∷ more → Later a b → Told' → Says n b d first (Err e) → Says n a d (λ l. after_nodes (include l room) file (nodes_of nodes) z) (Err e)
+  nodes-stop n d e split later told says =
+      says-after n a b d (λ l. first l >>= after_nodes (include l room) file (nodes_of more)) (λ l. after_nodes (include l room) file (nodes_of nodes) z) (Err e) later (whole split told) (stops n n b d first (λ l. after_nodes (include l room) file (nodes_of more)) e says)

@@ -25,6 +25,9 @@ rose-earlier a b n m h r = omega arith
 pub later-refl : (a : Outside) → Later a a
 later-refl a = record { listing = refl; faults = omega arith; absents = omega arith }
 
+pub later-join : {a b d : Outside} → Later a b → Later b d → Later a d
+later-join p q = record { listing = q.listing ∙ p.listing; faults = omega (arith, p.faults, q.faults); absents = omega (arith, p.absents, q.absents) }
+
 pub later-same : (a b : Outside) → b ≡ a → Later a b
 later-same a b e = subst (Later a) (sym e) (later-refl a)
 
@@ -59,9 +62,6 @@ makes-ok new answer meant u h e = subst (λ a. Makes new a meant) e h
 
 pub gives-refused : {X : Type 0} (answer : Result X MacroFault) (meant : Result X MacroKind) → x.Gives answer meant → (kind : MacroKind) → answer ≡ Err (f.Refused kind) → meant ≡ Err kind
 gives-refused answer meant h kind e = subst (λ a. x.Gives a meant) e h
-
-pub gives-ok : {X : Type 0} (answer : Result X MacroFault) (meant : Result X MacroKind) (y : X) → x.Gives answer meant → answer ≡ Ok y → meant ≡ Ok y
-gives-ok answer meant y h e = subst (λ a. x.Gives a meant) e h
 
 -- a refusal of a file's own
 pub own : {X Y : Type 0} (view : Y → X) (meant : Result X Refusal) (n : X) (b c : Outside) (e : Stop) → Gives view (Err e) meant → Says n b c (λ l. meant) (Err e)
@@ -169,8 +169,5 @@ module _ (room : ℕ) (file : List ℕ) (line : ℕ) (name array : List ℕ) (bo
   loop-ends a vs start (x ∷ rest) z st new elems same none told is = cc
 
 -- a part of what a line gives
-pub part-refused : {X Y : Type 0} (view : Y → X) (answer : Result Y MacroFault) (meant : Result X MacroKind) → GivesPart view answer meant → (kind : MacroKind) → answer ≡ Err (f.Refused kind) → meant ≡ Err kind
-part-refused view answer meant h kind e = subst (λ a. GivesPart view a meant) e h
-
 pub part-ok : {X Y : Type 0} (view : Y → X) (answer : Result Y MacroFault) (meant : Result X MacroKind) (y : Y) → GivesPart view answer meant → answer ≡ Ok y → meant ≡ Ok (view y)
 part-ok view answer meant y h e = subst (λ a. GivesPart view a meant) e h

@@ -1,9 +1,11 @@
 // The expansion of a file.
-ghost use Rattle.std.specs.Prelude.{◌≡◌, ◌≤◌, ◌-◌, length, IfOk, MatchResult, None};
+ghost use Rattle.std.specs.Prelude.{◌≡◌, ◌≤◌, ◌-◌, ℕ, List, length, IfOk, MatchResult, None};
 ghost use Rattle.mp_outside.specs.Outside.{Later};
 ghost use Rattle.mp_mvalue.specs.Environments.{value_in};
 ghost use Rattle.mp_directive.specs.Tree.{Done, Included, Loop, run_before, nodes_weight, branches_weight};
+ghost use Rattle.mp_directive.specs.Groups.{groups};
 ghost use Rattle.mp_directive.specs.Lines.{lines};
+ghost use Rattle.mp_directive.specs.Structure.{Means, contents};
 ghost use Rattle.mp_directive.specs.Shown.{node_before, nodes_of, branches_of};
 ghost use Rattle.mp_macro.specs.Expansion.{Including, after_node, after_nodes, after_branches, after_main, include, defined, expands};
 ghost use Rattle.mp_macro.specs.Says.{state_of, SaysHere, Says, SaysText, ShowsCause};
@@ -249,6 +251,22 @@ pub fn expand<F: Files>(
     // What is answered where the files tell their listing.
     ensures says { SaysText (F.outside files.old).listing (λ l. expands l name.now defines.now) result }
     // What is answered in any case.
+    ensures cause { MatchResult result (λ _. Unit {0}) (ShowsCause (F.outside files.old) (F.outside files.new)) }
+    ensures later { Later (F.outside files.old) (F.outside files.new) }
+    ensures short { IfOk result (λ text. length text ≤ 8388608) }
+    // Of each file there is the tree, or the first own fault, that the grammar of groups says.
+    ensures grammar { (bytes : List ℕ) → Means (contents bytes) (groups bytes) }
+{
+    expand_text(alloc, files, name, defines)
+}
+
+fn expand_text<F: Files>(
+    alloc: Global,
+    files: &mut F,
+    name: &[u8],
+    defines: &Defines,
+) -> Result<Bytes, ExpandFault>
+    ensures says { SaysText (F.outside files.old).listing (λ l. expands l name.now defines.now) result }
     ensures cause { MatchResult result (λ _. Unit {0}) (ShowsCause (F.outside files.old) (F.outside files.new)) }
     ensures later { Later (F.outside files.old) (F.outside files.new) }
     ensures short { IfOk result (λ text. length text ≤ 8388608) }

@@ -76,7 +76,7 @@ const BOMBS: [(&str, &str, usize, &str, Option<(MacroKind, u32)>); 14] = [
     (
         "@#define A = \"",
         "x",
-        8_388_580,
+        8_388_570,
         "\"\n@#define B = [A]\n",
         None,
     ),

@@ -286,28 +286,28 @@ fn the_deepest_files_fit_the_stack(rt: HostRuntime) -> Result<(), Fail> {
     Ok(())
 }
 
-// A longer name is cut in what is told.
-#[test]
-fn a_long_name_is_cut(rt: HostRuntime) -> Result<(), Fail> {
-    let name = vec![in rt.alloc(); b'n'; 129]?;
-    let mut listing = Listing::new(rt.alloc());
-    listing.add(name.as_slice(), b"@#endif")?;
-    let mut files = MemFiles::new(listing, Calls::new(rt.alloc()));
-    let defines = Defines::new(rt.alloc());
-    let refused = expand(rt.alloc(), &mut files, name.as_slice(), &defines);
-    is_refused(
-        &rt,
-        &refused,
-        MacroKind::Unbalanced,
-        &name.as_slice()[..128],
-        1,
-    );
-    match expand(rt.alloc(), &mut files, &name.as_slice()[..128], &defines) {
-        Err(ExpandFault::Absent { name: told }) => assert_eq!(rt;
-            told.bytes(),
-            &name.as_slice()[..128]
-        ),
+fn is_absent(rt: &impl Abort, answer: &Result<Bytes, ExpandFault>, name: &[u8]) {
+    match answer {
+        Err(ExpandFault::Absent { name: told }) => assert_eq!(rt; told.bytes(), name),
         _ => assert!(rt; false),
     }
-    Ok(())
+}
+
+// The answer for a file of this name, where that one is there.
+fn answer_of(alloc: Global, name: &[u8], there: &[u8]) -> Result<Bytes, ExpandFault> {
+    let mut listing = Listing::new(alloc);
+    listing.add(there, b"@#endif")?;
+    let mut files = MemFiles::new(listing, Calls::new(alloc));
+    expand(alloc, &mut files, name, &Defines::new(alloc))
+}
+
+const LONG: [u8; 129] = [b'n'; 129];
+
+// A longer name is cut in what is told.
+#[test]
+fn a_long_name_is_cut(rt: HostRuntime) {
+    let there = answer_of(rt.alloc(), &LONG, &LONG);
+    is_refused(&rt, &there, MacroKind::Unbalanced, &LONG[..128], 1);
+    let absent = answer_of(rt.alloc(), &LONG, b"m");
+    is_absent(&rt, &absent, &LONG[..128]);
 }
