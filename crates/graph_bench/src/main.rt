@@ -1,5 +1,5 @@
-//! Builds equations in one graph, and negates the leaves of each. The words: how many equations, how many sums in
-//! each, and a third one if the leaves are to be negated.
+//! Builds equations in one graph, and negates leaves. The words: how many equations, how many sums in
+//! each, and in how many the leaves are negated.
 #![tactic(auto)]
 
 ghost use Rattle.std.specs.Prelude.{◌≡◌, ◌<◌, ◌≤◌, length, IfOk, OnOk};
@@ -20,14 +20,14 @@ fn number(graph: &mut Graph<'_>, equation: u32, place: u32) -> Result<NodeId, No
     graph.intern(NodeOp::Leaf(LeafOp::Num { m, s: 0 }), &[])
 }
 
-// A sum of numbers, with so many operators.
+// A sum of numbers, with so many operators. Most numbers stand in it twice.
 fn chain(graph: &mut Graph<'_>, equation: u32, sums: u32) -> Result<NodeId, NoMemory>
     ensures within { IfOk result (λ id. id < length graph.new.terms) }
     ensures longer { OnOk result (length graph.old.terms ≤ length graph.new.terms) }
 {
     let mut sum = number(graph, equation, sums)?;
     'sums: for place in 0..sums {
-        let next = number(graph, equation, place)?;
+        let next = number(graph, equation, place / 2)?;
         sum = graph.intern(NodeOp::Binary(BinaryOp::Add), &[sum, next])?;
     }
     Ok(sum)
@@ -52,12 +52,22 @@ fn chains(
     Ok(roots)
 }
 
-// Negates the leaves of each.
-fn negated(alloc: Global, graph: &mut Graph<'_>, roots: &[NodeId]) -> Result<(), NoMemory>
+// Negates the leaves of so many of them.
+fn negated(
+    alloc: Global,
+    graph: &mut Graph<'_>,
+    roots: &[NodeId],
+    most: u32,
+) -> Result<(), NoMemory>
     requires { AllByRecursion (λ r. r < length graph.old.terms) roots.now }
 {
     let mut images = Vec::new(alloc);
+    let mut left = most;
     'roots: for root in roots {
+        if left == 0 {
+            break;
+        }
+        left -= 1;
         let own = graph.own_nodes(alloc, *root)?;
         images.resize(graph.nodes(), *root)?;
         let _ = rewritten(graph, *root, &own, &mut images, &Opposite)?;
@@ -85,12 +95,10 @@ fn main(rt: HostRuntime) -> io::Result<()> {
     };
     let nodes = graph.nodes();
     println!(rt; "nodes {nodes}")?;
-    if words.next().is_some() {
-        let Ok(()) = negated(alloc, &mut graph, &roots) else {
-            return println!(rt; "no memory");
-        };
-        let nodes = graph.nodes();
-        println!(rt; "nodes {nodes}")?;
-    }
-    Ok(())
+    let most = read(words.next());
+    let Ok(()) = negated(alloc, &mut graph, &roots, most) else {
+        return println!(rt; "no memory");
+    };
+    let nodes = graph.nodes();
+    println!(rt; "nodes {nodes}")
 }

@@ -44,7 +44,7 @@ pub fn row_at<R: Copy>(rows: &[R], id: NodeId) -> R
 }
 
 /// The row of this node, whose own nodes are given, or the fault of one of them. Each of them is asked for once. The
-/// table is by the numbers of nodes, may hold anything, and is left with the rows at their places.
+/// table is by the numbers of nodes; it may hold anything, and is written over.
 pub fn folded<F: Fold>(
     graph: &Graph<'_>,
     root: NodeId,

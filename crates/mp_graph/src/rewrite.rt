@@ -36,7 +36,7 @@ pub trait Rewrite {
 }
 
 /// The image of this node, whose own nodes are given. Each of them is asked for once. The table is by the numbers of
-/// nodes, may hold anything, and is left with the images at their places.
+/// nodes; it may hold anything, and is written over.
 pub fn rewritten<W: Rewrite>(
     graph: &mut Graph<'_>,
     root: NodeId,

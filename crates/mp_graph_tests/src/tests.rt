@@ -100,15 +100,27 @@ const DEPTHS: &[(u64, Result<u64, TooDeep>)] = &[
     (0, Err(TooDeep)),
 ];
 
+// The height of this node, with a table of its own.
+fn depth(
+    alloc: Global,
+    graph: &Graph<'_>,
+    root: NodeId,
+    limit: u64,
+) -> Result<Result<u64, TooDeep>, NoMemory>
+    requires { root < length graph.now.terms }
+{
+    let own = graph.own_nodes(alloc, root)?;
+    let mut rows = vec![in alloc; 0; graph.nodes()]?;
+    Ok(folded(graph, root, &own, &mut rows, &Depth { limit }))
+}
+
 #[test]
 fn a_height_has_a_limit(rt: HostRuntime) -> Result<(), Fail> {
     let mut graph = Graph::new(rt.alloc(), names(rt.alloc())?);
     let root = quotient(&mut graph)?;
-    let own = graph.own_nodes(rt.alloc(), root)?;
-    let mut rows = vec![in rt.alloc(); 0; graph.nodes()]?;
     for (limit, answer) in DEPTHS {
-        let depth = Depth { limit: *limit };
-        assert_eq!(rt; folded(&graph, root, &own, &mut rows, &depth), *answer);
+        let found = depth(rt.alloc(), &graph, root, *limit)?;
+        assert_eq!(rt; found, *answer);
     }
     Ok(())
 }
