@@ -17,8 +17,7 @@ enum Filled {
 }
 
 // The words after the program's name. The first one that isn't text is refused with its number, from 1.
-pub fn words_of(rt: &HostRuntime) -> Result<WordList, Refusal>
-{
+pub fn words_of(rt: &HostRuntime) -> Result<WordList, Refusal> {
     let mut words = WordList::new(rt.alloc());
     let Ok(mut buffer) = vec![in rt.alloc(); 0u8; FIRST_ROOM] else {
         return Err(Refusal::NoMemory);
