@@ -31,7 +31,7 @@ walk-stops k fault (p ∷ ps) qs e = stops-by k fault p ps qs (point_fault k p) 
 
 pub Stops-append : (fault : DeclFault) (k : Known) (ps qs : List Point) → Stops fault (walk k ps) → Stops fault (walk k (ps ++ qs))
 Stops-append (f.Declared kind name at) k ps qs e = walk-stops k _ ps qs e
-Stops-append (f.Data kind at first second) k ps qs e = e
+Stops-append (f.Data refused) k ps qs e = e
 Stops-append f.NoMemory k ps qs e = tt
 
 pub Stops-went : (fault : DeclFault) (k g : Known) (ps qs : List Point) → walk k ps ≡ Ok g → Stops fault (walk g qs) → Stops fault (walk k (ps ++ qs))

@@ -84,7 +84,7 @@ stopped file f stops = by (walk_fault file) (sym (walk-file file) ∙ stops)
 -- the walk stopped
 pub declared_fault-stops : (end : ℕ) (file : List Statement) (fault : DeclFault) → Stops fault (walk (record { names = no_names; begun = false }) (points_of file)) → Is fault (declared_fault end file)
 declared_fault-stops end file (f.Declared kind name at) stops = ap (λ r. first_fault (r ∷ whole_fault end file ∷ [])) (stopped file _ stops)
-declared_fault-stops end file (f.Data kind at first second) stops = stops
+declared_fault-stops end file (f.Data refused) stops = stops
 declared_fault-stops end file f.NoMemory stops = tt
 
 alone : (r : Option Fault) → first_fault (r ∷ []) ≡ r
@@ -111,7 +111,7 @@ declared_fault-went end file k e =
 
 pub is_first : (fault : DeclFault) (a v : Option Fault) → Is fault a → Is fault (first_fault (a ∷ v ∷ []))
 is_first (f.Declared kind name at) a v h = ap (λ r. first_fault (r ∷ v ∷ [])) h
-is_first (f.Data kind at first second) a v h = h
+is_first (f.Data refused) a v h = h
 is_first f.NoMemory a v h = tt
 
 pub is_second : (fault : DeclFault) (a v : Option Fault) → a ≡ None → Is fault v → Is fault (first_fault (a ∷ v ∷ []))

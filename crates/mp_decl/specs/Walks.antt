@@ -10,7 +10,7 @@ use Rattle.mp_decl.specs.Walk.{walk}
 -- this is the first fault of the walk, or there was no memory
 abbrev pub Stops : DeclFault → Result Known Fault → Type 0
 Stops (f.Declared kind name at) walked = walked ≡ Err (record { kind = kind; name = name; at = at })
-Stops (f.Data kind at first second) walked = ⊥
+Stops (f.Data refused) walked = ⊥
 Stops f.NoMemory walked = Unit {0}
 
 -- a call went as far as the walk did, or stopped at its fault
@@ -25,7 +25,7 @@ Walks result old new points = Went result new (walk old points)
 -- this is the fault, or there was no memory
 abbrev pub Is : DeclFault → Option Fault → Type 0
 Is (f.Declared kind name at) fault = fault ≡ Some (record { kind = kind; name = name; at = at })
-Is (f.Data kind at first second) fault = ⊥
+Is (f.Data refused) fault = ⊥
 Is f.NoMemory fault = Unit {0}
 
 -- a test found no fault, or this one

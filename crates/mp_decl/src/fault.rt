@@ -1,6 +1,6 @@
 // Why a text does not declare its model.
 
-use mp_base::{DataKind, DeclKind, Label, NoMemory, Ratio};
+use mp_base::{DataRefusal, DeclKind, Label, NoMemory};
 use std::fmt;
 use thiserror::Error;
 
@@ -15,13 +15,8 @@ pub enum DeclFault {
         name: Label,
         at: u32,
     },
-    #[error("{kind:?} at byte {at}")]
-    Data {
-        kind: DataKind,
-        at: u32,
-        first: Ratio,
-        second: Ratio,
-    },
+    #[error("a number is refused")]
+    Data(DataRefusal),
     #[error("there was no memory")]
     NoMemory,
 }

@@ -8,13 +8,13 @@ ghost use Rattle.mp_values.specs.Names.{names_of};
 ghost use Rattle.mp_values.specs.Values.{all_exponents};
 ghost use Rattle.mp_declared.specs.Declared.{declared_fault};
 ghost use Rattle.mp_fold.specs.Shown.{shown, stuck_of};
-ghost use Rattle.mp_decl.specs.Given.{whole_told, values_told, declared_given, refusal, Tells, HasLowest};
+ghost use Rattle.mp_decl.specs.Given.{whole_told, values_told, declared_given, refusal, Tells};
 
 use crate::fault::DeclFault;
 use crate::file::declared_names;
 use crate::known::wrong;
 use crate::parts::items_of;
-use mp_base::{DataKind, DeclKind, Ratio};
+use mp_base::{DataKind, DataRefusal, DeclKind, Reduced};
 use mp_file::{File, Named, Statement};
 use mp_fold::{FoldFault, assign_values, exponents};
 use mp_lex::{Token, Tokens};
@@ -45,7 +45,6 @@ pub fn declare<'t>(
     ensures names { IfOk result (λ d. d.names ≡ names_of (file_of file.now)) }
     ensures without_fault { IfOk result (λ d. declared_fault end (file_of file.now) ≡ None) }
     ensures refused { IfErr result (λ e. Tells e (declared_given end tokens.now (file_of file.now))) }
-    ensures lowest { IfErr result HasLowest }
 {
     let names = match declared_names(alloc, file, end) {
         Ok(names) => names,
@@ -87,14 +86,14 @@ fn is_number(kind: TokenKind) -> bool
 
 // The refusal of a number at this place.
 fn literal_fault(at: u32) -> DeclFault
-    ensures { result ≡ DeclFault.Data DataKind.Literal at (whole_told 0) (whole_told 37) }
+    ensures { result ≡ DeclFault.Data (record { kind = DataKind.Literal; at = at; first = whole_told 0; second = whole_told 37 }) }
 {
-    DeclFault::Data {
+    DeclFault::Data(DataRefusal {
         kind: DataKind::Literal,
         at,
-        first: Ratio { n: 0, d: 1 },
-        second: Ratio { n: 37, d: 1 },
-    }
+        first: Reduced::whole(0),
+        second: Reduced::whole(37),
+    })
 }
 
 // The parameters with their values, where each exponent of the equations is one.
@@ -107,7 +106,6 @@ fn values<'t>(
     requires { names.now.parameters ≡ (names_of (map statement_of statements.now)).parameters }
     ensures given { IfOk result (λ t. values_told end (map statement_of statements.now) ≡ Ok t) }
     ensures refused { IfErr result (λ e. Tells e (values_told end (map statement_of statements.now))) }
-    ensures lowest { IfErr result HasLowest }
 {
     let Ok(mut table) = Table::of_parameters(alloc, names) else {
         return Err(DeclFault::NoMemory);
@@ -136,7 +134,6 @@ fn all_exponents<'t>(table: &Table<'t>, statements: &[Statement<'t>]) -> Result<
 // Why there is no value, with the end of the text as the place of a name.
 fn told(fault: FoldFault, end: u32) -> DeclFault
     ensures told { Tells result (refusal end (stuck_of fault.entry)) }
-    ensures lowest { HasLowest result }
 {
     match fault {
         FoldFault::Unvalued { name } => wrong(DeclKind::NoValue, &Named { name, at: end }),
@@ -145,11 +142,11 @@ fn told(fault: FoldFault, end: u32) -> DeclFault
             at,
             first,
             second,
-        } => DeclFault::Data {
+        } => DeclFault::Data(DataRefusal {
             kind,
             at,
-            first: first.parts(),
-            second: second.parts(),
-        },
+            first: Reduced::of(first.parts()),
+            second: Reduced::of(second.parts()),
+        }),
     }
 }

@@ -3,7 +3,7 @@ use Rattle.std.proofs.Common.{List, ℕ, Option, Some, None}
 use Rattle.mp_base.specs.declared.job.Job.{Job}
 use Rattle.mp_base.specs.declared.job.Job.TheVariants as j
 use Rattle.mp_base.specs.declared.outcome.Outcome.{Outcome}
-use Rattle.mp_base.specs.declared.outcome.Outcome.TheVariants as o
+use Rattle.mp_base.specs.declared.outcome.Outcome.TheVariants.{Done}
 use Rattle.mp_outside.specs.Outside.{Held, Listing}
 use Rattle.mp_run.specs.Answers.{IsDone, WritesResult}
 use Rattle.mp_run.specs.Headline.{KeepsFor, WritesSameSolutions}
@@ -18,7 +18,7 @@ keeps j.Check text written d = tt
 keeps j.Sample text written d = tt
 
 pub same_solutions : (told : Option Listing) (words : List (List ℕ)) (before now : Held) (outcome : Outcome) → WritesResult told words before now outcome → WritesSameSolutions told words before now outcome
-same_solutions None words before now o.Done h = h
-same_solutions (Some l) words before now o.Done h =
+same_solutions None words before now Done h = h
+same_solutions (Some l) words before now Done h =
     let w = h.1 in (w.request, w.text, h.0, w.asked, w.expanded, keeps w.request.job w.text h.0 w.done, h.2)
 same_solutions told words before now _ h = tt

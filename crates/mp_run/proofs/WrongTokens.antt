@@ -1,7 +1,8 @@
 -- A run that refuses a token tells the first wrong one.
 use Rattle.std.proofs.Common.{◌≡◌, ℕ, List, [], Option, Some, None, Result, Ok, Err, refl, sym, ap, ◌∙◌}
 use Rattle.mp_base.specs.declared.outcome.Outcome.{Outcome}
-use Rattle.mp_base.specs.declared.outcome.Outcome.TheVariants as o
+use Rattle.mp_base.specs.declared.outcome.Outcome.TheVariants.{Refused}
+use Rattle.mp_base.specs.declared.refusal.Refusal.TheVariants as o
 use Rattle.mp_base.specs.declared.kinds.TextKind.TheVariants as t
 use Rattle.mp_base.specs.declared.job.Job.{Job}
 use Rattle.mp_base.specs.declared.job.Job.TheVariants as j
@@ -17,9 +18,10 @@ use Rattle.mp_run.specs.Answers.{AsVerdict}
 use Rattle.mp_run.specs.Wrong.{IsFirstWrong, TellsWrongToken}
 
 -- what a run refuses with this outcome, it refuses in its steps
-refused : (r : Step (List ℕ)) (at : ℕ) (token : List ℕ) → o.Text t.Token at token ≡ (answer_of r).outcome → r ≡ Err (o.Text t.Token at token)
+refused : (r : Step (List ℕ)) (at : ℕ) (token : List ℕ) → Refused (o.Text t.Token at token) ≡ (answer_of r).outcome → r ≡ Err (o.Text t.Token at token)
 refused (Ok bytes) at token e = absurd cc
-refused (Err outcome) at token e = ap Err (sym e)
+refused (Err refusal) at token e =
+    let same : o.Text t.Token at token ≡ refusal = cc in ap Err (sym same)
 
 by_job : (job : Job) (text : List ℕ) (at : ℕ) (token : List ℕ) → job_gives job text ≡ Err (o.Text t.Token at token) → ShowsWrongToken text (o.Text t.Token at token)
 by_job j.Expand text at token e = absurd cc
@@ -43,6 +45,6 @@ first_wrong words l at token e = by_words (request_of words) refl e
     by_words (Err w) asked e = absurd cc
 
 pub tells_wrong : (told : Option Listing) (words : List (List ℕ)) (before now : Held) (outcome : Outcome) → AsVerdict told words before now outcome → TellsWrongToken told words outcome
-tells_wrong None words before now (o.Text t.Token at token) h = h
-tells_wrong (Some l) words before now (o.Text t.Token at token) h = first_wrong words l at token (refused (run_gives words l) at token h.0)
+tells_wrong None words before now (Refused (o.Text t.Token at token)) h = h
+tells_wrong (Some l) words before now (Refused (o.Text t.Token at token)) h = first_wrong words l at token (refused (run_gives words l) at token h.0)
 tells_wrong told words before now _ h = tt

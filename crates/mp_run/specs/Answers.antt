@@ -1,7 +1,9 @@
 -- What a run's answer says of its words, files and sinks.
 use Rattle.std.specs.Prelude.{◌≡◌, ◌⊎◌, ℕ, List, Option, Some, IfSome, Result, Ok, Err}
 use Rattle.mp_base.specs.declared.outcome.Outcome.{Outcome}
-use Rattle.mp_base.specs.declared.outcome.Outcome.TheVariants as o
+use Rattle.mp_base.specs.declared.outcome.Outcome.TheVariants.{Done, Refused}
+use Rattle.mp_base.specs.declared.refusal.Refusal.TheVariants as o
+use Rattle.mp_base.specs.declared.refusal.Refusal.{Refusal}
 use Rattle.mp_base.specs.declared.job.Job.{Job}
 use Rattle.mp_base.specs.declared.job.Job.TheVariants as j
 use Rattle.mp_outside.specs.Outside.{Outside, Held, Listing, Rose, CutOff, gained}
@@ -12,53 +14,57 @@ use Rattle.mp_transform.specs.Canonical.{IsCanonical}
 use Rattle.mp_run.specs.Verdict.{verdict}
 
 -- what a step of the code that reads files refused is what the definition refuses; want of memory and a fault of the files may come at any time
-abbrev pub RefusesFiles : {X : Type 0} → Step X → Outcome → Type 0
+abbrev pub RefusesFiles : {X : Type 0} → Step X → Refusal → Type 0
 RefusesFiles gives (o.ReadFault count) = Unit {0}
-RefusesFiles gives outcome = Refuses gives outcome
+RefusesFiles gives refusal = Refuses gives refusal
 
 -- what such a step gave, seen by view, is what the definition gives, where the files are told
-abbrev pub SaysFiles : {X Y : Type 0} → (X → Y) → Option Listing → (Listing → Step Y) → Result X Outcome → Type 0
+abbrev pub SaysFiles : {X Y : Type 0} → (X → Y) → Option Listing → (Listing → Step Y) → Result X Refusal → Type 0
 SaysFiles view told gives (Ok x) = IfSome told (λ l. gives l ≡ Ok (view x))
-SaysFiles view told gives (Err outcome) = IfSome told (λ l. RefusesFiles (gives l) outcome)
+SaysFiles view told gives (Err refusal) = IfSome told (λ l. RefusesFiles (gives l) refusal)
 
--- an outcome that ends a run before anything is written shows its cause, told or not
+-- a refusal before anything is written shows its cause, told or not
+abbrev pub RefusalShows : List (List ℕ) → Outside → Outside → Refusal → Type 0
+RefusalShows words before now (o.Words word) = request_of words ≡ Err word
+RefusalShows words before now (o.Absent name) = Rose before.absents now.absents
+RefusalShows words before now (o.ReadFault count) = Rose before.faults now.faults × (count ≡ now.faults)
+RefusalShows words before now _ = Unit {0}
+
+-- the same of an outcome
 abbrev pub ShowsCause : List (List ℕ) → Outside → Outside → Outcome → Type 0
-ShowsCause words before now (o.Words word) = request_of words ≡ Err word
-ShowsCause words before now (o.Absent name) = Rose before.absents now.absents
-ShowsCause words before now (o.ReadFault count) = Rose before.faults now.faults × (count ≡ now.faults)
-ShowsCause words before now _ = Unit {0}
+ShowsCause words before now Done = Unit {0}
+ShowsCause words before now (Refused refusal) = RefusalShows words before now refusal
 
 -- the same of a step after the words
-abbrev pub FilesShow : Outside → Outside → Outcome → Type 0
+abbrev pub FilesShow : Outside → Outside → Refusal → Type 0
 FilesShow before now (o.Absent name) = Rose before.absents now.absents
 FilesShow before now (o.ReadFault count) = Rose before.faults now.faults × (count ≡ now.faults)
 FilesShow before now (o.Words word) = ⊥
 FilesShow before now _ = Unit {0}
 
--- nothing is done or written yet
-abbrev pub EndsEarly : Outcome → Type 0
-EndsEarly o.Done = ⊥
+-- nothing is written yet
+abbrev pub EndsEarly : Refusal → Type 0
 EndsEarly (o.WriteFault count) = ⊥
 EndsEarly _ = Unit {0}
 
 -- where the files are told, the outcome and the bytes gained are the verdict's, and a fault of the sink cuts these bytes off; want of memory and a fault of the files may come in place of them
 abbrev pub AsVerdict : Option Listing → List (List ℕ) → Held → Held → Outcome → Type 0
-AsVerdict told words before now o.NoMemory = Unit {0}
-AsVerdict told words before now (o.ReadFault count) = Unit {0}
-AsVerdict told words before now (o.WriteFault count) =
-    IfSome told (λ l. ((verdict words l).outcome ≡ o.Done) × CutOff before now (verdict words l).bytes)
+AsVerdict told words before now (Refused o.NoMemory) = Unit {0}
+AsVerdict told words before now (Refused (o.ReadFault count)) = Unit {0}
+AsVerdict told words before now (Refused (o.WriteFault count)) =
+    IfSome told (λ l. ((verdict words l).outcome ≡ Done) × CutOff before now (verdict words l).bytes)
 AsVerdict told words before now outcome =
     IfSome told (λ l. (outcome ≡ (verdict words l).outcome) × (now.taken ≡ gained before.taken (verdict words l).bytes))
 
 -- where the files are told and no count of faults rose, the answer is the verdict, or there was no memory
 abbrev pub Complete : List (List ℕ) → Outside → Outside → Held → Held → Outcome → Type 0
 Complete words files files' out out' outcome =
-    (l : Listing) → files.listing ≡ Some l → ¬ (Rose files.faults files'.faults) → ¬ (Rose out.faults out'.faults) → (outcome ≡ o.NoMemory) ⊎ ((outcome ≡ (verdict words l).outcome) × (out'.taken ≡ gained out.taken (verdict words l).bytes))
+    (l : Listing) → files.listing ≡ Some l → ¬ (Rose files.faults files'.faults) → ¬ (Rose out.faults out'.faults) → (outcome ≡ Refused o.NoMemory) ⊎ ((outcome ≡ (verdict words l).outcome) × (out'.taken ≡ gained out.taken (verdict words l).bytes))
 
 -- nothing is written but under Done, or in part at a fault of the sink, which carries its risen count
 abbrev pub ShowsSink : Held → Held → Outcome → Type 0
-ShowsSink before now (o.WriteFault count) = Rose before.faults now.faults × (count ≡ now.faults)
-ShowsSink before now o.Done = Unit {0}
+ShowsSink before now (Refused (o.WriteFault count)) = Rose before.faults now.faults × (count ≡ now.faults)
+ShowsSink before now Done = Unit {0}
 ShowsSink before now _ = now ≡ before
 
 -- what a job writes for an expanded text: the text itself, or the canonical text of the model that it means
@@ -76,7 +82,7 @@ pub record Writes (words : List (List ℕ)) (l : Listing) (written : List ℕ) :
   pub done : IsDone request.job text written
 
 abbrev pub IfDone : Outcome → Type 0 → Type 0
-IfDone o.Done P = P
+IfDone Done P = P
 IfDone _ P = Unit {0}
 
 -- under Done the sink gained what the words ask for

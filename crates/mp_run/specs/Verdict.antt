@@ -1,7 +1,8 @@
 -- The verdict: what a run answers on files that are told. It is the first refusal, or all is done and the job's text is written.
 use Rattle.std.specs.Prelude.{ℕ, List, [], Result, Ok, Err}
 use Rattle.mp_base.specs.declared.outcome.Outcome.{Outcome}
-use Rattle.mp_base.specs.declared.outcome.Outcome.TheVariants as o
+use Rattle.mp_base.specs.declared.outcome.Outcome.TheVariants.{Done, Refused}
+use Rattle.mp_base.specs.declared.refusal.Refusal.TheVariants as o
 use Rattle.mp_base.specs.declared.job.Job.{Job}
 use Rattle.mp_base.specs.declared.job.Job.TheVariants as j
 use Rattle.mp_outside.specs.Outside.{Listing}
@@ -17,8 +18,8 @@ pub record Answer : Type 0 where
 
 -- the answer of the last step: all is done, or nothing is written
 abbrev pub answer_of : Step (List ℕ) → Answer
-answer_of (Ok bytes) = record { outcome = o.Done; bytes = bytes }
-answer_of (Err outcome) = record { outcome = outcome; bytes = [] }
+answer_of (Ok bytes) = record { outcome = Done; bytes = bytes }
+answer_of (Err refusal) = record { outcome = Refused refusal; bytes = [] }
 
 -- what the words ask for, or the first wrong word
 abbrev pub words_step : Result Request ℕ → Step Request

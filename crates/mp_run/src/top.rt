@@ -2,15 +2,15 @@
 ghost use Rattle.std.specs.Prelude.{◌≡◌, ◌≤◌, ℕ, length, Err, IfOk, IfSome, MatchResult};
 ghost use Rattle.mp_outside.specs.Outside.{Later, Tells};
 ghost use Rattle.mp_words.specs.Words.{IsBuilt, request_of};
-ghost use Rattle.mp_tell.specs.Lines.{line, HasReduced};
+ghost use Rattle.mp_tell.specs.Lines.{line};
 ghost use Rattle.mp_transform.specs.Steps.{Says, TextShows};
 ghost use Rattle.mp_run.specs.Verdict.{job_gives, run_gives};
-ghost use Rattle.mp_run.specs.Answers.{SaysFiles, ShowsCause, EndsEarly, AsVerdict, Complete, ShowsSink, IsDone, Writes, WritesResult};
+ghost use Rattle.mp_run.specs.Answers.{SaysFiles, ShowsCause, EndsEarly, RefusalShows, AsVerdict, Complete, ShowsSink, IsDone, Writes, WritesResult};
 ghost use Rattle.mp_run.specs.Headline.{WritesSameSolutions};
 ghost use Rattle.mp_run.specs.Wrong.{TellsWrongToken};
 
 use crate::expanding::expanded;
-use mp_base::{Bytes, Job, Outcome, Steps, WordList};
+use mp_base::{Bytes, Job, Outcome, Refusal, Steps, WordList};
 use mp_outside::{Files, Sink};
 use mp_words::WordFault;
 use std::alloc::Global;
@@ -36,7 +36,7 @@ pub fn run<F: Files, O: Sink, E: Sink, L: Ledger>(
     ensures headline { WritesSameSolutions (F.outside files.old).listing words.now (O.held out.old) (O.held out.new) result }
 
     // What is answered in any case.
-    ensures wrong_words { (w : ℕ) → request_of words.now ≡ Err w → result ≡ Outcome.Words w }
+    ensures wrong_words { (w : ℕ) → request_of words.now ≡ Err w → result ≡ Outcome.Refused (Refusal.Words w) }
     ensures cause { ShowsCause words.now (F.outside files.old) (F.outside files.new) result }
     ensures sink { ShowsSink (O.held out.old) (O.held out.new) result }
     ensures told { Tells (E.held err.old) (E.held err.new) (line result) }
@@ -58,59 +58,56 @@ fn written<F: Files, O: Sink>(
 ) -> Outcome
     ensures verdict { AsVerdict (F.outside files.old).listing words.now (O.held out.old) (O.held out.new) result }
     ensures result { WritesResult (F.outside files.old).listing words.now (O.held out.old) (O.held out.new) result }
-    ensures wrong_words { (w : ℕ) → request_of words.now ≡ Err w → result ≡ Outcome.Words w }
+    ensures wrong_words { (w : ℕ) → request_of words.now ≡ Err w → result ≡ Outcome.Refused (Refusal.Words w) }
     ensures cause { ShowsCause words.now (F.outside files.old) (F.outside files.new) result }
     ensures sink { ShowsSink (O.held out.old) (O.held out.new) result }
-    ensures reduced { HasReduced result }
     ensures later { Later (F.outside files.old) (F.outside files.new) }
 {
     let bytes = match result_of(alloc, words, files) {
         Ok(bytes) => bytes,
-        Err(outcome) => return outcome,
+        Err(refusal) => return Outcome::Refused(refusal),
     };
     match mp_outside::write_whole(out, bytes.as_slice()) {
         Ok(()) => Outcome::Done,
-        Err(_) => Outcome::WriteFault {
+        Err(_) => Outcome::Refused(Refusal::WriteFault {
             count: out.faults(),
-        },
+        }),
     }
 }
 
-// The bytes that the words ask for, or the outcome that ends the run before anything is written.
-fn result_of<F: Files>(alloc: Global, words: &WordList, files: &mut F) -> Result<Bytes, Outcome>
+// The bytes that the words ask for, or the refusal that ends the run before anything is written.
+fn result_of<F: Files>(alloc: Global, words: &WordList, files: &mut F) -> Result<Bytes, Refusal>
     ensures says { SaysFiles (λ bytes. bytes) (F.outside files.old).listing (run_gives words.now) result }
     ensures writes { IfOk result (λ bytes. IfSome (F.outside files.old).listing (λ l. Writes words.now l bytes)) }
-    ensures wrong_words { (w : ℕ) → request_of words.now ≡ Err w → result ≡ Err (Outcome.Words w) }
-    ensures cause { MatchResult result (λ _. Unit {0}) (ShowsCause words.now (F.outside files.old) (F.outside files.new)) }
-    ensures reduced { MatchResult result (λ _. Unit {0}) HasReduced }
+    ensures wrong_words { (w : ℕ) → request_of words.now ≡ Err w → result ≡ Err (Refusal.Words w) }
+    ensures cause { MatchResult result (λ _. Unit {0}) (RefusalShows words.now (F.outside files.old) (F.outside files.new)) }
     ensures early { MatchResult result (λ _. Unit {0}) EndsEarly }
     ensures later { Later (F.outside files.old) (F.outside files.new) }
 {
     let request = match mp_words::read_words(alloc, words) {
         Ok(request) => request,
-        Err(WordFault::Refused { word }) => return Err(Outcome::Words { word }),
-        Err(WordFault::NoMemory) => return Err(Outcome::NoMemory),
+        Err(WordFault::Refused { word }) => return Err(Refusal::Words { word }),
+        Err(WordFault::NoMemory) => return Err(Refusal::NoMemory),
     };
     match expanded(alloc, files, &request) {
         Ok(text) => done(alloc, request.job, text),
-        Err(outcome) => Err(outcome),
+        Err(refusal) => Err(refusal),
     }
 }
 
 // What a job makes of the expanded text.
-fn done(alloc: Global, job: Job, text: Bytes) -> Result<Bytes, Outcome>
+fn done(alloc: Global, job: Job, text: Bytes) -> Result<Bytes, Refusal>
     requires built { IsBuilt job }
     requires short { length text ≤ 8388608 }
     ensures says { Says (λ bytes. bytes) (job_gives job text) result }
     ensures done { IfOk result (λ bytes. IsDone job text bytes) }
     ensures shows { MatchResult result (λ _. Unit {0}) TextShows }
-    ensures reduced { MatchResult result (λ _. Unit {0}) HasReduced }
 {
     match job {
         Job::Expand => Ok(text),
         Job::Transform => mp_transform::transformed(alloc, text.as_slice()),
         Job::Derive | Job::Solve | Job::Occbin | Job::Check | Job::Sample => {
-            Err(Outcome::Words { word: 1 })
+            Err(Refusal::Words { word: 1 })
         }
     }
 }

@@ -1,7 +1,7 @@
 -- What came before the last step.
 use Rattle.std.proofs.Common.{◌≡◌, ℕ, ◌≤◌, List, length, true, false, Bool, Some, Result, Ok, Err, refl, sym, ap, subst, arith, nat_le, if◌then◌else◌}
-use Rattle.mp_base.specs.declared.outcome.Outcome.{Outcome}
-use Rattle.mp_base.specs.declared.outcome.Outcome.TheVariants as o
+use Rattle.mp_base.specs.declared.refusal.Refusal.{Refusal}
+use Rattle.mp_base.specs.declared.refusal.Refusal.TheVariants as o
 use Rattle.mp_base.specs.declared.kinds.DataKind.TheVariants as d
 use Rattle.mp_tokens.specs.Tokens.{Tok, Fault, BadByte, LongName, OpenComment, OpenText, tokens}
 use Rattle.mp_statements.specs.Statements.{Statement}
@@ -34,13 +34,13 @@ pub parsed : (end : ℕ) (r : Result (List Statement) (List Tok)) (file : List S
 parsed end (Ok f) file e = let same : f ≡ file = cc in ap Ok same
 parsed end (Err left) file e = let k : ⊥ = cc in absurd k
 
-low_by : (b : Bool) (x : Outcome) → (let r : Step (Unit {0}) = if b then Ok tt else Err x in r ≡ Ok tt) → b ≡ true
+low_by : (b : Bool) (x : Refusal) → (let r : Step (Unit {0}) = if b then Ok tt else Err x in r ≡ Ok tt) → b ≡ true
 low_by true x e = refl
 low_by false x e = let k : ⊥ = cc in absurd k
 
 pub low : (tall : ℕ) (u : Unit {0}) → deep_step tall ≡ Ok u → tall ≤ 500
 low tall u e =
-    let b : nat_le tall 500 ≡ true = low_by (nat_le tall 500) (o.Data d.TooDeep 0 (whole tall) (whole 500)) e in
+    let b : nat_le tall 500 ≡ true = low_by (nat_le tall 500) (o.Data (record { kind = d.TooDeep; at = 0; first = whole tall; second = whole 500 })) e in
     grind (arith, b)
 
 pub meant : (end : ℕ) (r : Folded Model) (M : Model) → model_step end r ≡ Ok M → r ≡ Ok M

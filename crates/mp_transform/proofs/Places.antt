@@ -1,7 +1,7 @@
 -- The token at which a reading stops.
 use Rattle.std.proofs.Common.{◌≡◌, ℕ, ◌<◌, List, length, take, drop, map, get_or, ap, sym, ◌∙◌}
 use Rattle.std.proofs.lemmas.List.{drop-map, drop_more}
-use Rattle.mp_base.specs.declared.outcome.Outcome.TheVariants as o
+use Rattle.mp_base.specs.declared.refusal.Refusal.TheVariants as o
 use Rattle.mp_base.specs.declared.kinds.TextKind.TheVariants as t
 use Rattle.mp_lex.specs.declared.tokens.Token.{Token}
 use Rattle.mp_lex.specs.Shown.{tok_of}

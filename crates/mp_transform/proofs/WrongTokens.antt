@@ -1,7 +1,7 @@
 -- A text whose refusal is of a token has tokens, and this is the first wrong one.
 use Rattle.std.proofs.Common.{◌≡◌, ℕ, suc, ◌-◌, List, [], ◌∷◌, length, drop, Option, Some, None, Result, Ok, Err, Bool, true, false, cond, nat_le, refl, sym, ap, ◌∙◌, subst, arith}
-use Rattle.mp_base.specs.declared.outcome.Outcome.{Outcome}
-use Rattle.mp_base.specs.declared.outcome.Outcome.TheVariants as o
+use Rattle.mp_base.specs.declared.refusal.Refusal.{Refusal}
+use Rattle.mp_base.specs.declared.refusal.Refusal.TheVariants as o
 use Rattle.mp_base.specs.declared.kinds.TextKind.TheVariants as t
 use Rattle.mp_base.specs.declared.kinds.DataKind.TheVariants as d
 use Rattle.mp_tokens.specs.Tokens as lex
@@ -11,10 +11,11 @@ use Rattle.mp_statements.specs.Statements.{Statement}
 use Rattle.mp_statements.specs.Parts.{equations_of}
 use Rattle.mp_grammar.specs.Grammar.{FirstWrong, file_read}
 use Rattle.mp_grammar.proofs.Wrong.{wrong_number}
-use Rattle.mp_declared.specs.Declared.{Fault}
+use Rattle.mp_declared.specs.Declared.{Fault, declared_fault}
 use Rattle.mp_declared.specs.Shifts.{far_shift}
 use Rattle.mp_declared.specs.Heights.{greatest_height}
 use Rattle.mp_semantics.specs.Model.{Model}
+use Rattle.mp_values.specs.Table.{Table}
 use Rattle.mp_values.specs.Limits.{Stuck, Unvalued, Refused, Folded}
 use Rattle.mp_values.specs.Values.{values_given, all_exponents}
 use Rattle.mp_values.specs.ModelOf.{model_given}
@@ -25,7 +26,7 @@ use Rattle.mp_transform.specs.Text.{token_step, wrong_token, file_step, shift_st
 use Rattle.mp_transform.specs.Wrong.{ShowsWrongToken, IfWrongToken}
 
 -- it refuses no tokens and no grammar
-abbrev IsLater : Outcome → Type 0
+abbrev IsLater : Refusal → Type 0
 IsLater (o.Text kind at token) = ⊥
 IsLater _ = Unit {0}
 
@@ -60,7 +61,7 @@ shift_later (Some x) = tt
 deep_later : (tall : ℕ) → Later (deep_step tall)
 deep_later tall = by (nat_le tall 500)
   where
-    by : (low : Bool) → Later (cond low (Ok tt) (Err (o.Data d.TooDeep 0 (whole tall) (whole 500))))
+    by : (low : Bool) → Later (let r : Step (Unit {0}) = cond low (Ok tt) (Err (o.Data (record { kind = d.TooDeep; at = 0; first = whole tall; second = whole 500 }))) in r)
     by true = tt
     by false = tt
 
@@ -68,39 +69,49 @@ model_later : (end : ℕ) (r : Folded Model) → Later (model_step end r)
 model_later end (Ok M) = tt
 model_later end (Err s) = stuck_later end s
 
+declared_later : (end : ℕ) (ts : List Tok) (file : List Statement) → Later (declared_given end ts file)
+declared_later end ts file =
+    let powers : Table → Step Table = λ t. unless_stuck end (all_exponents t (equations_of file)) (λ _. Ok t) in
+    fault_later (declared_fault end file) (unless_far (far_literal ts) (values_told end file)) (far_later (far_literal ts) (values_told end file) (after_stuck end (values_given file) powers (λ t. by t (all_exponents t (equations_of file)))))
+  where
+    by : (t : Table) (u : Folded (Unit {0})) → Later (let r : Step Table = unless_stuck end u (λ _. Ok t) in r)
+    by t (Ok x) = tt
+    by t (Err s) = stuck_later end s
+
 tested_later : (end : ℕ) (ts : List Tok) (file : List Statement) → Later (tested end ts file)
 tested_later end ts file =
-    and_later (declared_given end ts file) (λ _. limited end file)
-    (fault_later _ _ (far_later _ _ (after_stuck end (values_given file) _ (λ t. after_stuck end (all_exponents t (equations_of file)) _ (λ _. tt)))))
-    (λ _. and_later (shift_step (far_shift file)) _ (shift_later (far_shift file)) (λ _. and_later (deep_step (greatest_height file)) _ (deep_later (greatest_height file)) (λ _. model_later end (model_given file))))
+    let model : Step Model = model_step end (model_given file) in
+    let deep : Step Model = and_then (deep_step (greatest_height file)) (λ _. model) in
+    and_later (declared_given end ts file) (λ _. limited end file) (declared_later end ts file)
+    (λ _. and_later (shift_step (far_shift file)) (λ _. deep) (shift_later (far_shift file)) (λ _. and_later (deep_step (greatest_height file)) (λ _. model) (deep_later (greatest_height file)) (λ _. model_later end (model_given file))))
 
 -- this outcome is a refusal of a token
-abbrev IsToken : Outcome → Type 0
+abbrev IsToken : Refusal → Type 0
 IsToken (o.Text t.Token at token) = Unit {0}
 IsToken _ = ⊥
 
-err_is : {X : Type 0} (x y : Outcome) → (let u : Step X = Err x in u ≡ Err y) → x ≡ y
+err_is : {X : Type 0} (x y : Refusal) → (let u : Step X = Err x in u ≡ Err y) → x ≡ y
 err_is x y e = cc
 
 -- no refusal of the tokens is
-lexed_never : (fault : lex.Fault) (outcome : Outcome) → token_step (Err fault) ≡ Err outcome → IsToken outcome → ⊥
-lexed_never (BadByte at) outcome e is = subst (λ (x : Outcome). IsToken x → ⊥) (err_is _ outcome e) (λ h. h) is
-lexed_never (LongName at) outcome e is = subst (λ (x : Outcome). IsToken x → ⊥) (err_is _ outcome e) (λ h. h) is
-lexed_never (OpenComment at) outcome e is = subst (λ (x : Outcome). IsToken x → ⊥) (err_is _ outcome e) (λ h. h) is
-lexed_never (OpenText at) outcome e is = subst (λ (x : Outcome). IsToken x → ⊥) (err_is _ outcome e) (λ h. h) is
+lexed_never : (fault : lex.Fault) (outcome : Refusal) → token_step (Err fault) ≡ Err outcome → IsToken outcome → ⊥
+lexed_never (BadByte at) outcome e is = subst (λ (x : Refusal). IsToken x → ⊥) (err_is _ outcome e) (λ h. h) is
+lexed_never (LongName at) outcome e is = subst (λ (x : Refusal). IsToken x → ⊥) (err_is _ outcome e) (λ h. h) is
+lexed_never (OpenComment at) outcome e is = subst (λ (x : Refusal). IsToken x → ⊥) (err_is _ outcome e) (λ h. h) is
+lexed_never (OpenText at) outcome e is = subst (λ (x : Refusal). IsToken x → ⊥) (err_is _ outcome e) (λ h. h) is
 
 -- nor is a later one
-later_never : {X : Type 0} (r : Step X) (outcome : Outcome) → Later r → r ≡ Err outcome → IsToken outcome → ⊥
+later_never : {X : Type 0} (r : Step X) (outcome : Refusal) → Later r → r ≡ Err outcome → IsToken outcome → ⊥
 later_never (Ok x) outcome h e is = absurd cc
 later_never (Err (o.Text kind at token)) outcome h e is = h
 later_never (Err y) outcome h e is = never y h (subst IsToken (sym (err_is y outcome e)) is)
   where
-    never : (y : Outcome) → IsLater y → IsToken y → ⊥
+    never : (y : Refusal) → IsLater y → IsToken y → ⊥
     never (o.Text t.Token at token) h is = h
     never _ h is = is
 
 -- where the reading stops
-stops_at : (text : List ℕ) (ts left : List Tok) (outcome : Outcome) → tokens text ≡ Ok ts → file_read ts ≡ Err left → outcome ≡ wrong_token (length text) left → ShowsWrongToken text outcome
+stops_at : (text : List ℕ) (ts left : List Tok) (outcome : Refusal) → tokens text ≡ Ok ts → file_read ts ≡ Err left → outcome ≡ wrong_token (length text) left → ShowsWrongToken text outcome
 stops_at text ts left outcome lexed e told =
     let w = wrong_number ts left e in
     let back : w.0 ≡ suc w.0 - 1 = omega arith in
@@ -112,11 +123,11 @@ refused (LongName at) ts e = cc
 refused (OpenComment at) ts e = cc
 refused (OpenText at) ts e = cc
 
-shows_wrong : (text : List ℕ) (outcome : Outcome) → text_gives text ≡ Err outcome → IsToken outcome → ShowsWrongToken text outcome
+shows_wrong : (text : List ℕ) (outcome : Refusal) → text_gives text ≡ Err outcome → IsToken outcome → ShowsWrongToken text outcome
 shows_wrong text outcome e is = by_tokens (tokens text) refl e
   where
     by_file : (ts : List Tok) → tokens text ≡ Ok ts → (r : Result (List Statement) (List Tok)) → file_read ts ≡ r → and_then (and_then (file_step (length text) r) (tested (length text) ts)) (λ M. Ok (canonical_text M)) ≡ Err outcome → ShowsWrongToken text outcome
-    by_file ts lexed (Ok file) read e = absurd (later_never (and_then (tested (length text) ts file) (λ M. Ok (canonical_text M))) outcome (and_later _ _ (tested_later (length text) ts file) (λ M. tt)) e is)
+    by_file ts lexed (Ok file) read e = absurd (later_never (and_then (tested (length text) ts file) (λ M. Ok (canonical_text M))) outcome (and_later (tested (length text) ts file) (λ M. Ok (canonical_text M)) (tested_later (length text) ts file) (λ M. tt)) e is)
     by_file ts lexed (Err left) read e = stops_at text ts left outcome lexed read (sym (err_is _ outcome e))
 
     -- a refusal of the tokens goes through
@@ -129,11 +140,11 @@ shows_wrong text outcome e is = by_tokens (tokens text) refl e
     by_tokens (Err fault) lexed e = absurd (lexed_never fault outcome (stays fault (token_step (Err fault)) refl e) is)
 
 -- a refusal of a token tells the first wrong one
-pub wrong_shown : (text : List ℕ) (outcome : Outcome) → text_gives text ≡ Err outcome → IfWrongToken text outcome
+pub wrong_shown : (text : List ℕ) (outcome : Refusal) → text_gives text ≡ Err outcome → IfWrongToken text outcome
 wrong_shown text (o.Text t.Token at token) e = shows_wrong text (o.Text t.Token at token) e tt
 wrong_shown text _ e = tt
 
 -- the same of a step of the code that refuses what the definition does
-pub refused_shown : (text : List ℕ) (outcome : Outcome) → Refuses (text_gives text) outcome → IfWrongToken text outcome
+pub refused_shown : (text : List ℕ) (outcome : Refusal) → Refuses (text_gives text) outcome → IfWrongToken text outcome
 refused_shown text (o.Text t.Token at token) e = wrong_shown text (o.Text t.Token at token) e
 refused_shown text _ e = tt

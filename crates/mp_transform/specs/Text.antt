@@ -1,7 +1,7 @@
 -- What a text is transformed into: the canonical text of its model, or the first refusal in the order of the steps.
 use Rattle.std.specs.Prelude.{ℕ, List, [], ◌∷◌, length, take, nat_le, if◌then◌else◌, Option, Some, None, Result, Ok, Err}
-use Rattle.mp_base.specs.declared.outcome.Outcome.{Outcome}
-use Rattle.mp_base.specs.declared.outcome.Outcome.TheVariants as o
+use Rattle.mp_base.specs.declared.refusal.Refusal.{Refusal}
+use Rattle.mp_base.specs.declared.refusal.Refusal.TheVariants as o
 use Rattle.mp_base.specs.declared.kinds.TextKind.TheVariants as t
 use Rattle.mp_base.specs.declared.kinds.DataKind.TheVariants as d
 use Rattle.mp_tokens.specs.Tokens.{Tok, Fault, BadByte, LongName, OpenComment, OpenText, tokens}
@@ -25,7 +25,7 @@ token_step (Err (OpenComment at)) = Err (o.Text t.OpenComment at [])
 token_step (Err (OpenText at)) = Err (o.Text t.OpenText at [])
 
 -- where no token is left, the end of the text is wrong
-abbrev pub wrong_token : ℕ → List Tok → Outcome
+abbrev pub wrong_token : ℕ → List Tok → Refusal
 wrong_token end [] = o.Text t.Token end []
 wrong_token end (w ∷ left) = o.Text t.Token w.at (take 128 w.bytes)
 
@@ -37,11 +37,11 @@ file_step end (Err left) = Err (wrong_token end left)
 -- no variable is shifted by more than 24 periods
 abbrev pub shift_step : Option (ℕ × ℕ) → Step (Unit {0})
 shift_step None = Ok tt
-shift_step (Some x) = Err (o.Data d.ShiftFar x.0 (whole x.1) (whole 24))
+shift_step (Some x) = Err (o.Data (record { kind = d.ShiftFar; at = x.0; first = whole x.1; second = whole 24 }))
 
 -- no side of an equation is higher than 500
 abbrev pub deep_step : ℕ → Step (Unit {0})
-deep_step tall = if nat_le tall 500 then Ok tt else Err (o.Data d.TooDeep 0 (whole tall) (whole 500))
+deep_step tall = if nat_le tall 500 then Ok tt else Err (o.Data (record { kind = d.TooDeep; at = 0; first = whole tall; second = whole 500 }))
 
 -- the model of a file
 abbrev pub model_step : ℕ → Folded Model → Step Model

@@ -5,23 +5,21 @@ ghost use Rattle.mp_grammar.specs.Grammar.{ReadsFile, file_read};
 ghost use Rattle.mp_declared.specs.Heights.{greatest_height};
 ghost use Rattle.mp_file.specs.Shown.{file_of};
 ghost use Rattle.mp_lex.specs.Shown.{tok_of};
-ghost use Rattle.mp_tell.specs.Lines.{HasReduced};
 ghost use Rattle.mp_transform.specs.Steps.{Says, TextShows};
 ghost use Rattle.mp_transform.specs.Text.{token_step, file_step, wrong_token};
 
-use mp_base::{Label, Outcome, TextKind};
+use mp_base::{Label, Refusal, TextKind};
 use mp_file::File;
 use mp_gram::ParseFault;
 use mp_lex::{LexFault, Token, Tokens};
 use std::alloc::Global;
 
 /// The tokens of the text.
-pub(crate) fn lexed<'t>(alloc: Global, text: &'t [u8]) -> Result<Tokens<'t>, Outcome>
+pub(crate) fn lexed<'t>(alloc: Global, text: &'t [u8]) -> Result<Tokens<'t>, Refusal>
     requires { length text.now < 2 ^ 32 - 1 }
     ensures says { Says (λ ts. ts) (token_step (tokens text.now)) result }
     ensures few { IfOk result (λ ts. length ts ≤ length text.now) }
     ensures shows { MatchResult result (λ _. Unit {0}) TextShows }
-    ensures reduced { MatchResult result (λ _. Unit {0}) HasReduced }
 {
     match mp_lex::lex(alloc, text) {
         Ok(tokens) => Ok(tokens),
@@ -29,15 +27,15 @@ pub(crate) fn lexed<'t>(alloc: Global, text: &'t [u8]) -> Result<Tokens<'t>, Out
         Err(LexFault::LongName { at }) => Err(wrong_byte(TextKind::LongName, at)),
         Err(LexFault::OpenComment { at }) => Err(wrong_byte(TextKind::OpenComment, at)),
         Err(LexFault::OpenText { at }) => Err(wrong_byte(TextKind::OpenText, at)),
-        Err(LexFault::NoMemory) => Err(Outcome::NoMemory),
+        Err(LexFault::NoMemory) => Err(Refusal::NoMemory),
     }
 }
 
 // A text has no tokens or no reading for this reason, which no token shows.
-fn wrong_byte(kind: TextKind, at: u32) -> Outcome
-    ensures { result ≡ Outcome.Text kind at [] }
+fn wrong_byte(kind: TextKind, at: u32) -> Refusal
+    ensures { result ≡ Refusal.Text kind at [] }
 {
-    Outcome::Text {
+    Refusal::Text {
         kind,
         at,
         token: Label::of(b""),
@@ -45,24 +43,23 @@ fn wrong_byte(kind: TextKind, at: u32) -> Outcome
 }
 
 /// The file that the tokens read as. The text ends at `end`.
-pub(crate) fn parsed<'t>(alloc: Global, tokens: &Tokens<'t>, end: u32) -> Result<File<'t>, Outcome>
+pub(crate) fn parsed<'t>(alloc: Global, tokens: &Tokens<'t>, end: u32) -> Result<File<'t>, Refusal>
     requires { length tokens.now < 2 ^ 32 - 1 }
     ensures says { Says file_of (file_step end (file_read tokens.now)) result }
     ensures found { IfOk result (λ f. ReadsFile tokens.now (file_of f)) }
     ensures low { IfOk result (λ f. greatest_height (file_of f) < 2 ^ 32) }
     ensures shows { MatchResult result (λ _. Unit {0}) TextShows }
-    ensures reduced { MatchResult result (λ _. Unit {0}) HasReduced }
 {
     mp_decl::heights_law();
     match mp_gram::parse(alloc, tokens) {
         Ok(file) => Ok(file),
         Err(ParseFault::Token { index }) => Err(wrong_token(tokens, index, end)),
-        Err(ParseFault::NoMemory) => Err(Outcome::NoMemory),
+        Err(ParseFault::NoMemory) => Err(Refusal::NoMemory),
     }
 }
 
 // The token with this number, from 1, is wrong, or the end of the text.
-fn wrong_token(tokens: &Tokens, index: u32, end: u32) -> Outcome
+fn wrong_token(tokens: &Tokens, index: u32, end: u32) -> Refusal
     requires { 1 ≤ index }
     ensures { result ≡ wrong_token end (drop (index - 1) tokens.now) }
 {
@@ -75,10 +72,10 @@ fn wrong_token(tokens: &Tokens, index: u32, end: u32) -> Outcome
 }
 
 // The reading stops at this token.
-fn stops_at(token: &Token) -> Outcome
-    ensures { result ≡ Outcome.Text TextKind.Token (tok_of token.now).at (take 128 (tok_of token.now).bytes) }
+fn stops_at(token: &Token) -> Refusal
+    ensures { result ≡ Refusal.Text TextKind.Token (tok_of token.now).at (take 128 (tok_of token.now).bytes) }
 {
-    Outcome::Text {
+    Refusal::Text {
         kind: TextKind::Token,
         at: token.span.at,
         token: Label::of(token.text),

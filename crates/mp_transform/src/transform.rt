@@ -13,14 +13,13 @@ ghost use Rattle.mp_model_data.specs.Shown.{model_data};
 ghost use Rattle.mp_canonical.specs.Files.{canonical_text};
 ghost use Rattle.mp_frac.specs.Value.{value_of};
 ghost use Rattle.mp_decl.specs.Given.{ratio_told, declared_given};
-ghost use Rattle.mp_tell.specs.Lines.{HasReduced};
 ghost use Rattle.mp_transform.specs.Steps.{Says, TextShows};
 ghost use Rattle.mp_transform.specs.Text.{shift_step, deep_step, model_step, limited, tested, text_gives};
 ghost use Rattle.mp_transform.specs.Canonical.{IsCanonical};
 ghost use Rattle.mp_transform.specs.Wrong.{IfWrongToken};
 
 use crate::reading::{lexed, parsed};
-use mp_base::{Bytes, DataKind, DeclKind, Label, Outcome, Ratio};
+use mp_base::{Bytes, DataKind, DataRefusal, DeclKind, Label, Reduced, Refusal};
 use mp_decl::{DeclFault, Declared};
 use mp_file::File;
 use mp_frac::Frac;
@@ -32,7 +31,7 @@ use std::alloc::Global;
 /// The canonical text of the model that a text means: its names, the values of its parameters and its equations, with
 /// exponents folded and the fewest parentheses; or the first refusal: of tokens, grammar, declarations, values, shifts
 /// and heights, in this order (Dynare manual, "The model file"; the canonical text is modpath's own).
-pub fn transformed(alloc: Global, text: &[u8]) -> Result<Bytes, Outcome>
+pub fn transformed(alloc: Global, text: &[u8]) -> Result<Bytes, Refusal>
     requires { length text.now < 2 ^ 32 - 1 }
     ensures says { Says (λ bytes. bytes) (text_gives text.now) result }
     // The first wrong token is told exactly.
@@ -40,7 +39,6 @@ pub fn transformed(alloc: Global, text: &[u8]) -> Result<Bytes, Outcome>
     // A path solves what is written exactly when it solves what was read.
     ensures canonical { IfOk result (λ bytes. IsCanonical text.now bytes) }
     ensures shows { MatchResult result (λ _. Unit {0}) TextShows }
-    ensures reduced { MatchResult result (λ _. Unit {0}) HasReduced }
 {
     mp_grammar::grammar_law();
     mp_values::limits_law();
@@ -50,11 +48,10 @@ pub fn transformed(alloc: Global, text: &[u8]) -> Result<Bytes, Outcome>
 }
 
 // The canonical text.
-fn printed_text(alloc: Global, text: &[u8]) -> Result<Bytes, Outcome>
+fn printed_text(alloc: Global, text: &[u8]) -> Result<Bytes, Refusal>
     requires { length text.now < 2 ^ 32 - 1 }
     ensures says { Says (λ bytes. bytes) (text_gives text.now) result }
     ensures shows { MatchResult result (λ _. Unit {0}) TextShows }
-    ensures reduced { MatchResult result (λ _. Unit {0}) HasReduced }
 {
     let tokens = lexed(alloc, text)?;
     let end = text.len() as u32;
@@ -69,12 +66,11 @@ fn tested<'t>(
     tokens: &Tokens<'t>,
     file: &File<'t>,
     end: u32,
-) -> Result<Model<'t>, Outcome>
+) -> Result<Model<'t>, Refusal>
     requires near { far_literal tokens.now ≡ None → ForSome (far_shift (file_of file.now)) (λ x. x.1 ≤ 10 ^ 37) }
     requires low { greatest_height (file_of file.now) < 2 ^ 32 }
     ensures says { Says model_data (tested end tokens.now (file_of file.now)) result }
     ensures shows { MatchResult result (λ _. Unit {0}) TextShows }
-    ensures reduced { MatchResult result (λ _. Unit {0}) HasReduced }
 {
     let declared = declared(alloc, tokens, file, end)?;
     limited(alloc, file, &declared, end)
@@ -87,14 +83,13 @@ fn limited<'t>(
     file: &File<'t>,
     declared: &Declared<'t>,
     end: u32,
-) -> Result<Model<'t>, Outcome>
+) -> Result<Model<'t>, Refusal>
     requires names { declared.now.names ≡ names_of (file_of file.now) }
     requires values { values_given (file_of file.now) ≡ Ok declared.now.values }
     requires near { ForSome (far_shift (file_of file.now)) (λ x. x.1 ≤ 10 ^ 37) }
     requires low { greatest_height (file_of file.now) < 2 ^ 32 }
     ensures says { Says model_data (limited end (file_of file.now)) result }
     ensures shows { MatchResult result (λ _. Unit {0}) TextShows }
-    ensures reduced { MatchResult result (λ _. Unit {0}) HasReduced }
 {
     not_far(file)?;
     not_deep(file)?;
@@ -107,75 +102,54 @@ fn declared<'t>(
     tokens: &Tokens<'t>,
     file: &File<'t>,
     end: u32,
-) -> Result<Declared<'t>, Outcome>
+) -> Result<Declared<'t>, Refusal>
     ensures says { Says (λ d. d.values) (declared_given end tokens.now (file_of file.now)) result }
     ensures names { IfOk result (λ d. d.names ≡ names_of (file_of file.now)) }
     ensures values { IfOk result (λ d. values_given (file_of file.now) ≡ Ok d.values) }
     ensures in_range { IfOk result (λ _. far_literal tokens.now ≡ None) }
     ensures shows { MatchResult result (λ _. Unit {0}) TextShows }
-    ensures reduced { MatchResult result (λ _. Unit {0}) HasReduced }
 {
     match mp_decl::declare(alloc, tokens, file, end) {
         Ok(declared) => Ok(declared),
-        Err(DeclFault::Declared { kind, name, at }) => Err(Outcome::Declared { kind, name, at }),
-        Err(
-            DeclFault::Data {
-                kind,
-                at,
-                first,
-                second,
-            },
-        ) => Err(Outcome::Data {
-            kind,
-            at,
-            first,
-            second,
-        }),
-        Err(DeclFault::NoMemory) => Err(Outcome::NoMemory),
+        Err(DeclFault::Declared { kind, name, at }) => Err(Refusal::Declared { kind, name, at }),
+        Err(DeclFault::Data(refused)) => Err(Refusal::Data(refused)),
+        Err(DeclFault::NoMemory) => Err(Refusal::NoMemory),
     }
 }
 
 // No variable is shifted by more than 24 periods.
-fn not_far(file: &File) -> Result<(), Outcome>
+fn not_far(file: &File) -> Result<(), Refusal>
     requires { ForSome (far_shift (file_of file.now)) (λ x. x.1 ≤ 10 ^ 37) }
     ensures says { Says (λ u. u) (shift_step (far_shift (file_of file.now))) result }
     ensures shows { MatchResult result (λ _. Unit {0}) TextShows }
-    ensures reduced { MatchResult result (λ _. Unit {0}) HasReduced }
 {
     match mp_decl::far_shift(file) {
         None => Ok(()),
-        Some(far) => Err(Outcome::Data {
+        Some(far) => Err(Refusal::Data(DataRefusal {
             kind: DataKind::ShiftFar,
             at: far.at,
-            first: Ratio {
-                n: far.periods as i128,
-                d: 1,
-            },
-            second: Ratio { n: 24, d: 1 },
-        }),
+            first: Reduced::whole(far.periods as i128),
+            second: Reduced::whole(24),
+        })),
     }
 }
 
 // No side of an equation is higher than 500.
-fn not_deep(file: &File) -> Result<(), Outcome>
+fn not_deep(file: &File) -> Result<(), Refusal>
     requires { greatest_height (file_of file.now) < 2 ^ 32 }
     ensures says { Says (λ u. u) (deep_step (greatest_height (file_of file.now))) result }
     ensures shows { MatchResult result (λ _. Unit {0}) TextShows }
-    ensures reduced { MatchResult result (λ _. Unit {0}) HasReduced }
 {
     let tall = mp_decl::greatest_height(file);
     if tall <= 500 {
         return Ok(());
     }
-    Err(Outcome::Data {
+    Err(Refusal::Data(DataRefusal {
         kind: DataKind::TooDeep,
         at: 0,
-        first: Ratio {
-            n: tall as i128,
-            d: 1,
-        },
-        second: Ratio { n: 500, d: 1 },
-    })
+        first: Reduced::whole(tall as i128),
+        second: Reduced::whole(500),
+    }))
 }
 
 // The model of a file that declares these names and values. The text ends at `end`.
@@ -184,16 +158,15 @@ fn model<'t>(
     file: &File<'t>,
     declared: &Declared<'t>,
     end: u32,
-) -> Result<Model<'t>, Outcome>
+) -> Result<Model<'t>, Refusal>
     requires names { declared.now.names ≡ names_of (file_of file.now) }
     requires values { values_given (file_of file.now) ≡ Ok declared.now.values }
     ensures says { Says model_data (model_step end (model_given (file_of file.now))) result }
     ensures shows { MatchResult result (λ _. Unit {0}) TextShows }
-    ensures reduced { MatchResult result (λ _. Unit {0}) HasReduced }
 {
     match mp_trees::model(alloc, file, &declared.names, &declared.values) {
         Ok(model) => Ok(model),
-        Err(ModelFault::Unvalued { name }) => Err(Outcome::Declared {
+        Err(ModelFault::Unvalued { name }) => Err(Refusal::Declared {
             kind: DeclKind::NoValue,
             name: Label::of(name),
             at: end,
@@ -206,31 +179,29 @@ fn model<'t>(
                 second,
             },
         ) => Err(refused(kind, at, first, second)),
-        Err(ModelFault::NoMemory) => Err(Outcome::NoMemory),
+        Err(ModelFault::NoMemory) => Err(Refusal::NoMemory),
     }
 }
 
 // A number is refused at this place, with two that say why.
-fn refused(kind: DataKind, at: u32, first: Frac, second: Frac) -> Outcome
-    ensures says { result ≡ Outcome.Data kind at (ratio_told (value_of first)) (ratio_told (value_of second)) }
-    ensures reduced { HasReduced result }
+fn refused(kind: DataKind, at: u32, first: Frac, second: Frac) -> Refusal
+    ensures says { result ≡ Refusal.Data (record { kind = kind; at = at; first = ratio_told (value_of first); second = ratio_told (value_of second) }) }
 {
-    Outcome::Data {
+    Refusal::Data(DataRefusal {
         kind,
         at,
-        first: first.parts(),
-        second: second.parts(),
-    }
+        first: Reduced::of(first.parts()),
+        second: Reduced::of(second.parts()),
+    })
 }
 
 // The canonical text of the model.
-fn printed(alloc: Global, model: &Model) -> Result<Bytes, Outcome>
+fn printed(alloc: Global, model: &Model) -> Result<Bytes, Refusal>
     ensures says { Says (λ bytes. bytes) (Ok (canonical_text (model_data model.now))) result }
     ensures shows { MatchResult result (λ _. Unit {0}) TextShows }
-    ensures reduced { MatchResult result (λ _. Unit {0}) HasReduced }
 {
     match mp_print_model::print_model(alloc, model) {
         Ok(bytes) => Ok(bytes),
-        Err(_) => Err(Outcome::NoMemory),
+        Err(_) => Err(Refusal::NoMemory),
     }
 }

@@ -1,5 +1,5 @@
 use Rattle.std.proofs.Common.{sym, subst, Result}
-use Rattle.mp_base.specs.declared.outcome.Outcome.{Outcome}
+use Rattle.mp_base.specs.declared.refusal.Refusal.{Refusal}
 use Rattle.mp_file.specs.Shown.{file_of}
 use Rattle.mp_model_data.specs.Shown.{model_data}
 use Rattle.mp_values.specs.Table.{Table}
@@ -9,4 +9,4 @@ use Rattle.mp_transform.proofs.transform.tested.Goals as goal
 
 pub returns-clause-says : goal.returns-clause-says
 returns-clause-says c =
-    subst (λ (r : Result Table Outcome). Says model_data (and_then r (λ _. limited c.args.end (file_of c.args.file.now))) c.limited.result) (sym c.in_ok-declared.ensures.says) c.limited.ensures.says
+    subst (λ (r : Result Table Refusal). Says model_data (and_then r (λ _. limited c.args.end (file_of c.args.file.now))) c.limited.result) (sym c.in_ok-declared.ensures.says) c.limited.ensures.says
