@@ -11,10 +11,11 @@ use Rattle.mp_statements.specs.Statements.{Statement}
 use Rattle.mp_statements.specs.Parts.{equations_of}
 use Rattle.mp_grammar.specs.Grammar.{FirstWrong, file_read}
 use Rattle.mp_grammar.proofs.Wrong.{wrong_number}
-use Rattle.mp_declared.specs.Declared.{Fault}
+use Rattle.mp_declared.specs.Declared.{Fault, declared_fault}
 use Rattle.mp_declared.specs.Shifts.{far_shift}
 use Rattle.mp_declared.specs.Heights.{greatest_height}
 use Rattle.mp_semantics.specs.Model.{Model}
+use Rattle.mp_values.specs.Table.{Table}
 use Rattle.mp_values.specs.Limits.{Stuck, Unvalued, Refused, Folded}
 use Rattle.mp_values.specs.Values.{values_given, all_exponents}
 use Rattle.mp_values.specs.ModelOf.{model_given}
@@ -60,7 +61,7 @@ shift_later (Some x) = tt
 deep_later : (tall : ℕ) → Later (deep_step tall)
 deep_later tall = by (nat_le tall 500)
   where
-    by : (low : Bool) → Later (cond low (Ok tt) (Err (o.Data d.TooDeep 0 (whole tall) (whole 500))))
+    by : (low : Bool) → Later (let r : Step (Unit {0}) = cond low (Ok tt) (Err (o.Data d.TooDeep 0 (whole tall) (whole 500))) in r)
     by true = tt
     by false = tt
 
@@ -68,11 +69,21 @@ model_later : (end : ℕ) (r : Folded Model) → Later (model_step end r)
 model_later end (Ok M) = tt
 model_later end (Err s) = stuck_later end s
 
+declared_later : (end : ℕ) (ts : List Tok) (file : List Statement) → Later (declared_given end ts file)
+declared_later end ts file =
+    let powers : Table → Step Table = λ t. unless_stuck end (all_exponents t (equations_of file)) (λ _. Ok t) in
+    fault_later (declared_fault end file) (unless_far (far_literal ts) (values_told end file)) (far_later (far_literal ts) (values_told end file) (after_stuck end (values_given file) powers (λ t. by t (all_exponents t (equations_of file)))))
+  where
+    by : (t : Table) (u : Folded (Unit {0})) → Later (let r : Step Table = unless_stuck end u (λ _. Ok t) in r)
+    by t (Ok x) = tt
+    by t (Err s) = stuck_later end s
+
 tested_later : (end : ℕ) (ts : List Tok) (file : List Statement) → Later (tested end ts file)
 tested_later end ts file =
-    and_later (declared_given end ts file) (λ _. limited end file)
-    (fault_later _ _ (far_later _ _ (after_stuck end (values_given file) _ (λ t. after_stuck end (all_exponents t (equations_of file)) _ (λ _. tt)))))
-    (λ _. and_later (shift_step (far_shift file)) _ (shift_later (far_shift file)) (λ _. and_later (deep_step (greatest_height file)) _ (deep_later (greatest_height file)) (λ _. model_later end (model_given file))))
+    let model : Step Model = model_step end (model_given file) in
+    let deep : Step Model = and_then (deep_step (greatest_height file)) (λ _. model) in
+    and_later (declared_given end ts file) (λ _. limited end file) (declared_later end ts file)
+    (λ _. and_later (shift_step (far_shift file)) (λ _. deep) (shift_later (far_shift file)) (λ _. and_later (deep_step (greatest_height file)) (λ _. model) (deep_later (greatest_height file)) (λ _. model_later end (model_given file))))
 
 -- this outcome is a refusal of a token
 abbrev IsToken : Outcome → Type 0
@@ -116,7 +127,7 @@ shows_wrong : (text : List ℕ) (outcome : Outcome) → text_gives text ≡ Err 
 shows_wrong text outcome e is = by_tokens (tokens text) refl e
   where
     by_file : (ts : List Tok) → tokens text ≡ Ok ts → (r : Result (List Statement) (List Tok)) → file_read ts ≡ r → and_then (and_then (file_step (length text) r) (tested (length text) ts)) (λ M. Ok (canonical_text M)) ≡ Err outcome → ShowsWrongToken text outcome
-    by_file ts lexed (Ok file) read e = absurd (later_never (and_then (tested (length text) ts file) (λ M. Ok (canonical_text M))) outcome (and_later _ _ (tested_later (length text) ts file) (λ M. tt)) e is)
+    by_file ts lexed (Ok file) read e = absurd (later_never (and_then (tested (length text) ts file) (λ M. Ok (canonical_text M))) outcome (and_later (tested (length text) ts file) (λ M. Ok (canonical_text M)) (tested_later (length text) ts file) (λ M. tt)) e is)
     by_file ts lexed (Err left) read e = stops_at text ts left outcome lexed read (sym (err_is _ outcome e))
 
     -- a refusal of the tokens goes through
