@@ -1,13 +1,12 @@
-//! From tokens to a file.
+//! From tokens to a file: each reader reads one format of the grammar.
 #![tactic(auto)]
 
 pub mod fault;
-pub mod item;
-pub mod parser;
-pub mod statement;
+mod item;
+mod name;
+mod parser;
+mod repeated;
+mod statement;
 
 pub use fault::ParseFault;
 pub use parser::parse;
-
-#[cfg(test)]
-mod tests;
