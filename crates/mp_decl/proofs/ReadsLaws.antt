@@ -1,5 +1,5 @@
 -- What expressions read, by their shape.
-use Rattle.std.proofs.Common.{◌≡◌, ℕ, List, [], ◌∷◌, ◌++◌, option_map, Option, Some, None, refl, sym, ap, ◌∙◌, append-nil, append_assoc}
+use Rattle.std.proofs.Common.{◌≡◌, ℕ, List, [], ◌∷◌, ◌++◌, option_map, Option, None, refl, sym, ap, ◌∙◌, append-nil, append_assoc}
 use Rattle.std.specs.List.{flat_map}
 use Rattle.mp_syntax.specs.declared.operator.Sign.{Sign}
 use Rattle.mp_syntax.specs.declared.operator.Function.{Function}

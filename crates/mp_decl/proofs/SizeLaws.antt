@@ -1,20 +1,18 @@
 -- No side of an equation is higher than the text has tokens.
-use Rattle.std.proofs.Common.{◌≡◌, ℕ, zero, suc, ◌+◌, ◌≤◌, max, List, [], ◌∷◌, ◌++◌, length, map, flat_map, inl, inr, Option, Some, None, Ok, refl, sym, ap, ◌∙◌, subst, arith, append-nil, length-append}
-use Rattle.mp_tokens.specs.declared.terminal.Terminal.TheVariants as t
+use Rattle.std.proofs.Common.{◌≡◌, ℕ, zero, suc, ◌+◌, ◌≤◌, max, List, [], ◌∷◌, ◌++◌, length, map, flat_map, inl, inr, Option, Some, None, refl, sym, ap, ◌∙◌, subst, arith, append-nil, length-append}
 use Rattle.mp_tokens.specs.Tokens.{Tok}
 use Rattle.mp_syntax.specs.declared.operator.Sign.{Sign}
 use Rattle.mp_syntax.specs.declared.operator.Sign.TheVariants as sign
-use Rattle.mp_syntax.specs.declared.operator.Operator.{Operator}
-use Rattle.mp_syntax.specs.Syntax.{Shift, Named, Expr, Paren, Call, Power, Binary, Further, with_further, signed}
+use Rattle.mp_syntax.specs.Syntax.{Shift, Named, Expr, Binary, Further, with_further, signed}
 use Rattle.mp_statements.specs.declared.kind.NameKind.{NameKind}
-use Rattle.mp_statements.specs.Statements.{Item, Statement, Declares, Assigns, Model}
+use Rattle.mp_statements.specs.Statements.{Item, Statement}
 use Rattle.mp_statements.specs.Parts.{items_in, equations_of}
-use Rattle.mp_format.specs.Format.{Format, tok, both, choose, opt, many, via, Look, Reads, read, told}
+use Rattle.mp_format.specs.Format.{Format, tok, both, choose, opt, many, via, Look, Reads, told}
 use Rattle.mp_format.specs.Pieces.{Around}
 use Rattle.mp_format.proofs.Laws.{sound, complete, local}
-use Rattle.mp_expressions.specs.Productions.{Whole, expr, name, spaced_name, sign_format, number}
-use Rattle.mp_expressions.specs.Expressions.{shift, literal, flat_atom, pair, fenced, shift_part, closed, atom, raised, power, factor, further, times_format, times, product, plus_format, plus, sum}
-use Rattle.mp_grammar.specs.Productions.{further_name, names, declared, declares, assigns, item, model, statement, statements}
+use Rattle.mp_expressions.specs.Productions.{Whole, expr, spaced_name, sign_format}
+use Rattle.mp_expressions.specs.Expressions.{shift, literal, flat_atom, pair, fenced, shift_part, closed, atom, raised, power, factor, times_format, times, product, plus_format, plus, sum}
+use Rattle.mp_grammar.specs.Productions.{names, declared, declares, assigns, item, model, statement, statements}
 use Rattle.mp_grammar.specs.Levels.{expression, atom_level}
 use Rattle.mp_grammar.specs.Grammar.{ReadsFile}
 use Rattle.mp_grammar.proofs.Steps.{expression_sum}

@@ -1,5 +1,5 @@
 -- Sums and products from left to right.
-use Rattle.std.proofs.Common.{◌≡◌, List, Ok, Err, refl, sym, ap, ◌∙◌}
+use Rattle.std.proofs.Common.{◌≡◌, List, Ok, Err, refl, ap}
 use Rattle.mp_syntax.specs.Syntax.{Expr, Further, with_further}
 use Rattle.mp_values.specs.Table.{Table}
 use Rattle.mp_values.specs.Chained.{chained}

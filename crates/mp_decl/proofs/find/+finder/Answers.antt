@@ -1,10 +1,9 @@
-use Rattle.std.proofs.Common.{List, map, refl, sym, ap, ◌∙◌}
+use Rattle.std.proofs.Common.{map, refl, sym, ap, ◌∙◌}
 use Rattle.std.specs.Prelude.{find}
 use Rattle.std.specs.List.{flat_map}
-use Rattle.mp_file.specs.declared.Further.{Further}
 use Rattle.mp_file.specs.Shown.{expr_of, further_of}
 use Rattle.mp_file.proofs.Views.{signed_is, chain_is, power_is, paren_is, call_is}
-use Rattle.mp_declared.specs.Points.{Constant, reads}
+use Rattle.mp_declared.specs.Points.{reads}
 use Rattle.mp_decl.specs.Shown.{reader_of, read_of}
 use Rattle.mp_decl.specs.Search.{sought_by}
 use Rattle.mp_decl.proofs.FindTurns.{pair_found, turn_none, turn_some}
