@@ -1,5 +1,6 @@
 -- A text whose refusal is of a token has tokens, and this is the first wrong one.
 use Rattle.std.proofs.Common.{◌≡◌, ℕ, suc, ◌-◌, List, [], ◌∷◌, length, drop, Option, Some, None, Result, Ok, Err, Bool, true, false, cond, nat_le, refl, sym, ap, ◌∙◌, subst, arith}
+use Rattle.std.specs.Result.{MatchResult, IsErrAnd}
 use Rattle.mp_base.specs.declared.refusal.Refusal.{Refusal}
 use Rattle.mp_base.specs.declared.refusal.Refusal.TheVariants as o
 use Rattle.mp_base.specs.declared.kinds.TextKind.TheVariants as t
@@ -148,3 +149,8 @@ wrong_shown text _ e = tt
 pub refused_shown : (text : List ℕ) (outcome : Refusal) → Refuses (text_gives text) outcome → IfWrongToken text outcome
 refused_shown text (o.Text t.Token at token) e = wrong_shown text (o.Text t.Token at token) e
 refused_shown text _ e = tt
+
+-- and so of its result
+pub result_shown : {X : Type 0} (r : Result X Refusal) (text : List ℕ) (outcome : Refusal) → IsErrAnd r (λ e. e ≡ outcome) → Refuses (text_gives text) outcome → MatchResult r (λ x. Unit {0}) (IfWrongToken text)
+result_shown (Ok x) text outcome same e = tt
+result_shown (Err y) text outcome same e = subst (IfWrongToken text) (sym same) (refused_shown text outcome e)
