@@ -27,6 +27,15 @@ const WRONG_TOKENS: &[(&[u8], u32)] = &[
     (b"a = (1, 2);", 5),
     (b"model; x = log(1); end;", 5),
     (b"model; x; var", 5),
+    (b"var x; end;", 4),
+    (b"var x; model x = 1; end;", 5),
+    (b"var x; model; x = 1; ) end;", 10),
+    (b"a = 1 * + ;", 6),
+    (b"a = x(+ 1;", 7),
+    (b"model; x;", 5),
+    (b"model; x; end", 6),
+    (b"shocks; end;", 1),
+    (b"x.5;", 2),
 ];
 
 // The number of the text's wrong token, or 0 where it is a file.
