@@ -169,21 +169,26 @@ fn answers(rt: &impl Abort, alloc: Global, row: &Row) -> Result<(), NoMemory> {
     Ok(())
 }
 
+// An empty text is transformed, with ample room.
+const TRANSFORM: Row<'static> = Row {
+    words: &["transform", "m"],
+    ..EMPTY
+};
+
 // The worked runs of a job on the file m.
 fn worked(
     rt: &impl Abort,
     alloc: Global,
-    words: &[&str],
-    rows: &[mp_vectors::Row],
+    job: Row<'static>,
+    rows: &'static [mp_vectors::Row],
 ) -> Result<(), NoMemory> {
     for row in rows {
         let row = Row {
-            words,
             text: row.text,
             status: row.status,
             out: row.out,
             err: row.err,
-            ..EMPTY
+            ..job
         };
         answers(rt, alloc, &row)?;
     }
@@ -192,9 +197,9 @@ fn worked(
 
 #[test]
 fn texts_are_expanded_transformed_or_refused(rt: HostRuntime) -> Result<(), Fail> {
-    worked(&rt, rt.alloc(), &["transform", "m"], TRANSFORMED)?;
-    worked(&rt, rt.alloc(), &["transform", "m"], REFUSED)?;
-    worked(&rt, rt.alloc(), &["expand", "m"], EXPANDED)?;
+    worked(&rt, rt.alloc(), TRANSFORM, TRANSFORMED)?;
+    worked(&rt, rt.alloc(), TRANSFORM, REFUSED)?;
+    worked(&rt, rt.alloc(), EMPTY, EXPANDED)?;
     Ok(())
 }
 
