@@ -7,6 +7,7 @@ ghost use Rattle.mp_sheet.specs.Layout.{IsKept, system_of};
 ghost use Rattle.mp_sheet.specs.Walks.{Leads, IsWindow};
 
 use crate::Sheet;
+use crate::operations::is_zero;
 use crate::rows::clear_row;
 use mp_base::Steps;
 use mp_elim::ElimFault;
@@ -109,6 +110,25 @@ fn clear_below<L: Ledger>(
     Ok(())
 }
 
+/// The column after the last entry of row `j` that is not 0, of those behind column `j` and before `past`.
+fn end_of(s: &Sheet, j: usize, past: usize) -> usize
+    requires some { j < past }
+    requires kept { (k : ℕ) → j ≤ k → k < past → IsKept s.now.form j k }
+    ensures behind { j < result }
+    ensures within { result ≤ past }
+    ensures zero { (k : ℕ) → result ≤ k → k < past → (system_of s.now).at j k ≡ pos 0 }
+{
+    let row = s.place(j, j);
+    let mut end = past;
+    while end > j + 1 {
+        if !is_zero(s.get_from(row, j, j, end - 1)) {
+            return end;
+        }
+        end -= 1;
+    }
+    end
+}
+
 /// Column `j`, over the rows before `low` and the columns before `past`.
 pub(crate) fn column<L: Ledger>(
     s: &mut Sheet,
@@ -134,5 +154,7 @@ pub(crate) fn column<L: Ledger>(
         });
     }
     exchange(s, j, p, past);
-    clear_below(s, j, low, past, steps)
+    let end = end_of(s, j, past);
+    s.limited();
+    clear_below(s, j, low, end, steps)
 }
