@@ -91,7 +91,7 @@ unfolding blocks_of
 shape_out t n s w h = subst (λ (u : System). IsTridiagonal n u) (sym (system_again s (t * n) w)) h
 
 -- a place in the shape is kept
-kept_place : (n m i k : ℕ) (f : Form) → 0 < n → f.block ≡ n → f.count ≡ m → f.lead ≡ 2 * n → f.width ≡ 5 * n → i < m → k < m → i / n ≤ k / n + 1 → k / n ≤ i / n + 1 → IsKept f i k
+kept_place : (n m i k : ℕ) (f : Form) → 0 < n → f.block ≡ n → f.count ≡ m → f.lead ≡ n → f.width ≡ 4 * n → i < m → k < m → i / n ≤ k / n + 1 → k / n ≤ i / n + 1 → IsKept f i k
 kept_place n m i k f z hb hc hl hw li lk a b =
     let first : first_of f i ≡ i / n * n = ap (λ (x : ℕ). i / x * x) hb in
     let low : i / n * n ≤ (k / n + 1) * n = mul-le-mul_right n a in
@@ -119,7 +119,7 @@ in_band t n s f row column h p =
     let w = p.within in
     let z : 0 < n = some_rows t n row r.0 w.0 in
     let e : f.block ≡ n = block_is t n f h z in
-    kept_place n (t * n) (row - 1) (column - 1) f z e h.count (h.lead ∙ ap (λ (x : ℕ). 2 * x) e) (h.width ∙ ap (λ (x : ℕ). 5 * x) e)
+    kept_place n (t * n) (row - 1) (column - 1) f z e h.count (h.lead ∙ e) (h.width ∙ ap (λ (x : ℕ). 4 * x) e)
     (omega (arith, r.0, w.0)) (omega (arith, r.1, w.1)) p.low p.high
 
 pub place_kept : (t n : ℕ) (s : System) (f : Form) (b : Blocks) (row column : ℕ) → blocks_of t n s ≡ b → IsBand t n f → IsPlace b row column → IsKept f (row - 1) (column - 1)

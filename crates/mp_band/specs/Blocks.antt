@@ -47,11 +47,11 @@ IsInShape b = IsTridiagonal b.size (system b.rows b.right)
 unfoldable pub blocks_of : ℕ → ℕ → System → Blocks
 blocks_of t n s = record { periods = t; size = n; rows = row_lists s (t * n); right = column_list s (t * n) }
 
--- a row keeps five periods, of which two stand before its own
+-- a row keeps four periods, of which one stands before its own
 pub record IsBand (periods size : ℕ) (f : Form) : Type 0 where
   pub small : periods * size < 2 ^ 32
   pub block : f.block ≡ max size 1
   pub narrow : size < 2 ^ 32
   pub count : f.count ≡ periods * size
-  pub lead : f.lead ≡ 2 * f.block
-  pub width : f.width ≡ 5 * f.block
+  pub lead : f.lead ≡ f.block
+  pub width : f.width ≡ 4 * f.block

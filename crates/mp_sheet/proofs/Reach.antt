@@ -1,14 +1,14 @@
 -- What a column reaches is kept, and how many operations it takes.
-use Rattle.std.proofs.Common.{◌≡◌, ℕ, ℤ, suc, ◌+◌, ◌-◌, ◌*◌, ◌/◌, ◌^◌, ◌<◌, ◌≤◌, min, pos, Result, Ok, Err, refl, ap, sym, ◌∙◌, subst, arith, ◌⊎◌, inl, inr}
+use Rattle.std.proofs.Common.{◌≡◌, ℕ, suc, ◌+◌, ◌-◌, ◌*◌, ◌/◌, ◌^◌, ◌<◌, ◌≤◌, pos, Result, Ok, Err, refl, ap, ◌∙◌, subst, arith, inl, inr}
 use Rattle.std.proofs.lemmas.Bool.{cases_lt}
 use Rattle.std.proofs.lemmas.Nat.{le-div}
 use Rattle.std.proofs.Math.Nat.{div-mul-le_self, lt-div-mul-add, div-lt_iff_lt-mul, mul-le-mul_right, mul-le-mul_left, mul_assoc, mul_left_comm, mul-add, mul-one, pow-zero, pow-succ'}
 use Rattle.mp_elim.specs.declared.ElimFault.{ElimFault}
-use Rattle.mp_turns.specs.Turns.{each_down, and_then}
+use Rattle.mp_turns.specs.Turns.{each_down}
 use Rattle.mp_elim.specs.Elimination.{System}
 use Rattle.mp_elim.specs.Shape.{low_of, past_of}
 use Rattle.mp_elim.proofs.Band.{Shape}
-use Rattle.mp_sheet.specs.Layout.{Form, IsKept, IsRoomy, first_of}
+use Rattle.mp_sheet.specs.Layout.{Form, IsKept, IsRoomy}
 use Rattle.mp_sheet.specs.Walks.{IsWindow}
 
 -- a row of the block of column j, or of the next one, keeps the columns of this block and of the next two

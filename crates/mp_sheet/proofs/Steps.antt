@@ -1,11 +1,11 @@
 -- Each step of the code is a step of the definition.
-use Rattle.std.proofs.Common.{◌≡◌, ℕ, ℤ, suc, ◌+◌, ◌-◌, ◌*◌, ◌<◌, ◌≤◌, Bool, true, false, cond, pos, Result, Ok, Err, refl, ap, sym, ◌∙◌, subst, arith}
+use Rattle.std.proofs.Common.{◌≡◌, ℕ, ℤ, suc, ◌+◌, ◌-◌, ◌*◌, ◌<◌, ◌≤◌, cond, Result, Ok, Err, refl, ap, sym, ◌∙◌, arith}
 use Rattle.std.specs.Prelude.{nat_lt}
 use Rattle.std.specs.Int.RustNames.{unsigned_abs}
 use Rattle.std.proofs.lemmas.Bool.Decides.{nat_tests}
 use Rattle.mp_elim.specs.declared.ElimFault.{ElimFault}
-use Rattle.mp_turns.specs.Turns.{and_then, each}
-use Rattle.mp_elim.specs.Elimination.{System, put, put_right, less_product, lessened, pivot_row}
+use Rattle.mp_turns.specs.Turns.{and_then}
+use Rattle.mp_elim.specs.Elimination.{System, put, less_product, lessened, pivot_row}
 use Rattle.mp_sheet.specs.Walks.{Leads}
 
 -- a chain's first answer

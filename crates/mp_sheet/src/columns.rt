@@ -49,9 +49,12 @@ fn pivot(s: &Sheet, j: usize, low: usize) -> usize
     ensures { result ≡ pivot_of low j (system_of s.now) }
 {
     let mut best = j;
+    let mut greatest = size(s.get(j, j));
     for i in j + 1..low {
-        if size(s.get(best, j)) < size(s.get(i, j)) {
+        let next = size(s.get(i, j));
+        if greatest < next {
             best = i;
+            greatest = next;
         }
     }
     best

@@ -1,4 +1,4 @@
-use Rattle.std.proofs.Common.{◌≡◌, arith, ◌∙◌, sym, ℕ, ℤ, Result, Ok, Err}
+use Rattle.std.proofs.Common.{arith, ◌∙◌, sym, ℕ, ℤ, Result, Ok, Err}
 use Rattle.mp_elim.specs.declared.ElimFault.{ElimFault}
 use Rattle.mp_elim.specs.Elimination.{less_product}
 use Rattle.mp_turns.proofs.Each.{each_ok, each_err}

@@ -1,4 +1,4 @@
-use Rattle.std.proofs.Common.{◌≡◌, arith, ◌∙◌, ap, sym, subst, ℕ}
+use Rattle.std.proofs.Common.{arith, ◌∙◌, sym, subst}
 use Rattle.mp_elim.specs.Elimination.{cleared}
 use Rattle.mp_turns.proofs.Each.{each_ok, each_err}
 use Rattle.mp_sheet.specs.Layout.{Form, IsKept, system_of}

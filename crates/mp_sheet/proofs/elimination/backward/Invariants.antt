@@ -1,4 +1,4 @@
-use Rattle.std.proofs.Common.{◌≡◌, ◌+◌, ◌-◌, ◌*◌, ◌/◌, ◌≤◌}
+use Rattle.std.proofs.Common.{◌≡◌, ◌+◌, ◌-◌, ◌*◌, ◌≤◌}
 use Rattle.mp_turns.specs.Turns.{each_down}
 use Rattle.mp_elim.specs.Elimination.{answered}
 use Rattle.mp_elim.specs.Shape.{past_of}

@@ -1,6 +1,6 @@
-use Rattle.std.proofs.Common.{◌≡◌, ◌<◌, arith, ◌∙◌, sym, ap, subst, refl, ℕ, ℤ, Result, Ok, Err}
+use Rattle.std.proofs.Common.{◌<◌, ◌∙◌, sym, ap, subst, refl, ℕ, Result}
 use Rattle.mp_elim.specs.declared.ElimFault.{ElimFault}
-use Rattle.mp_turns.specs.Turns.{each, each_down, and_then}
+use Rattle.mp_turns.specs.Turns.{each, each_down}
 use Rattle.mp_elim.specs.Elimination.{System, column, answered}
 use Rattle.mp_elim.specs.Shape.{low_of, past_of}
 use Rattle.mp_elim.proofs.Band.{banded_whole}

@@ -1,4 +1,4 @@
-use Rattle.std.proofs.Common.{◌≡◌, ◌≤◌, ◌+◌, ◌*◌, arith, ◌∙◌, sym, ap, subst, ℕ, ℤ, Result, Ok, Err}
+use Rattle.std.proofs.Common.{◌≡◌, ◌≤◌, ◌+◌, ◌*◌, ◌∙◌, sym, ap, subst, ℕ, Result, Ok, Err}
 use Rattle.mp_elim.specs.declared.ElimFault.{ElimFault}
 use Rattle.mp_turns.specs.Turns.{each}
 use Rattle.mp_elim.specs.Elimination.{System, column}

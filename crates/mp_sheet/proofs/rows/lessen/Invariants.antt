@@ -1,4 +1,4 @@
-use Rattle.std.proofs.Common.{◌≡◌, ℕ, ◌+◌, ◌-◌, ◌*◌, ◌≤◌}
+use Rattle.std.proofs.Common.{◌≡◌, ◌+◌, ◌-◌, ◌*◌, ◌≤◌}
 use Rattle.mp_turns.specs.Turns.{each}
 use Rattle.mp_elim.specs.Elimination.{lessened}
 use Rattle.mp_sheet.specs.Layout.{system_of}

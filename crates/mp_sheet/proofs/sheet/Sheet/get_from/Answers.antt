@@ -1,6 +1,6 @@
-use Rattle.std.proofs.Common.{◌≡◌, ℕ, ℤ, ◌<◌, List, length, get_or, ap, sym, subst, ◌∙◌, pos, set, refl}
-use Rattle.mp_sheet.specs.Layout.{Layout, Form, IsKept, system_of}
-use Rattle.mp_sheet.proofs.Places.{read_place, read_right, set_place, set_right_system, small_right}
+use Rattle.std.proofs.Common.{◌≡◌, ℤ, List, get_or, ap, subst}
+use Rattle.mp_sheet.specs.Layout.{Layout}
+use Rattle.mp_sheet.proofs.Places.{read_place}
 use Rattle.mp_sheet.proofs.sheet.Sheet.get_from.Goals as goal
 
 pub returns : goal.returns

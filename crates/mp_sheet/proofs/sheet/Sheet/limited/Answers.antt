@@ -1,4 +1,4 @@
-use Rattle.std.proofs.Common.{◌≡◌, ℕ, ℤ, ◌≤◌, List, get_or, ap, subst, pos}
+use Rattle.std.proofs.Common.{ℕ, ℤ, ◌≤◌, List, get_or, ap, subst, pos}
 use Rattle.std.specs.Int.RustNames.{unsigned_abs}
 use Rattle.mp_fix.specs.Units.{most}
 use Rattle.mp_sheet.specs.Layout.{Layout}

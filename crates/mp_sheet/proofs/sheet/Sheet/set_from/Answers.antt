@@ -1,7 +1,7 @@
-use Rattle.std.proofs.Common.{◌≡◌, ℕ, ℤ, ◌<◌, List, length, get_or, ap, sym, subst, ◌∙◌, pos, set, refl}
-use Rattle.mp_sheet.specs.Layout.{Layout, Form, IsKept, place_of, system_of}
-use Rattle.mp_elim.specs.Elimination.{put, put_right}
-use Rattle.mp_sheet.proofs.Places.{read_place, read_right, set_place, set_right_system, small_right}
+use Rattle.std.proofs.Common.{◌≡◌, ◌<◌, length, ap, sym, subst, ◌∙◌}
+use Rattle.mp_sheet.specs.Layout.{Layout, IsKept, place_of, system_of}
+use Rattle.mp_elim.specs.Elimination.{put}
+use Rattle.mp_sheet.proofs.Places.{set_place}
 use Rattle.mp_sheet.proofs.sheet.Sheet.set_from.Goals as goal
 
 pub returns-clause-system : goal.returns-clause-system
