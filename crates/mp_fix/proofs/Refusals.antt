@@ -1,5 +1,5 @@
 -- When an operation has a zero divisor.
-use Rattle.std.proofs.Common.{◌≡◌, ℕ, zero, suc, ℤ, pos, negsuc, ◌+ℤ◌, ◌-ℤ◌, ◌*ℤ◌, Bool, true, false, cond, Result, Ok, Err, refl, arith}
+use Rattle.std.proofs.Common.{◌≡◌, zero, suc, ℤ, pos, negsuc, ◌+ℤ◌, ◌-ℤ◌, ◌*ℤ◌, Bool, true, false, cond, Result, Ok, Err, refl, arith}
 use Rattle.std.specs.Prelude.{◌↔◌, int_lt, nat_le, not, ◌&&◌}
 use Rattle.std.specs.Int.Signed.{◌≤ℤ◌, lt_z}
 use Rattle.std.specs.Int.RustNames.{unsigned_abs}
