@@ -1,15 +1,13 @@
 -- The first line of a text.
-use Rattle.std.proofs.Common.{◌≡◌, ℕ, zero, suc, ◌+◌, ◌<◌, List, [], ◌∷◌, take, drop, length, Bool, true, false, not, ◌==◌, refl, sym, ap, ◌∙◌, arith}
+use Rattle.std.proofs.Common.{◌≡◌, ℕ, zero, suc, ◌+◌, ◌<◌, List, [], ◌∷◌, take, drop, length, Bool, true, false, ◌==◌, refl, sym, ap, ◌∙◌, arith}
 use Rattle.std.specs.List.{prefix_len}
 use native.Mathlib.Numerals.{unary_clauses}
 use Rattle.std.proofs.lemmas.Grind.{common_steps}
+use Rattle.mp_tokens.specs.Tokens.{is_on_line}
 use Rattle.mp_directive.specs.Lines.{with_first, lines}
 
-abbrev pub stays : ℕ → Bool
-stays b = not (b == 10)
-
 abbrev pub until : List ℕ → ℕ
-until text = prefix_len stays text
+until text = prefix_len is_on_line text
 
 take-one : (b p : ℕ) (bs : List ℕ) → take (1 + p) (b ∷ bs) ≡ b ∷ take p bs
 take-one b p bs = grind (arith, common_steps)

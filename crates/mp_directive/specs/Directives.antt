@@ -1,7 +1,7 @@
 -- Directive lines (Dynare manual, "Macro processing language"; blanks and comments are modpath's own).
 use Rattle.std.specs.Prelude.{ℕ, suc, List, [], ◌∷◌, take, drop, codes, Bool, false, not, ◌||◌, ◌&&◌, ◌==◌, bytes_eq, if◌then◌else◌, Option, Some, None}
-use Rattle.std.specs.Char.{is_ascii_alphanumeric, is_ascii_alphabetic}
 use Rattle.std.specs.List.{prefix_len}
+use Rattle.mp_tokens.specs.Tokens.{is_blank, is_first, is_word}
 use Rattle.mp_directive.specs.declared.keyword.Keyword.{Keyword}
 use Rattle.mp_directive.specs.declared.keyword.Keyword.TheVariants as k
 
@@ -31,19 +31,7 @@ pub data Content : Type 0 where
   EndFor : Content
   IllFormed : Content
 
--- a space, a tab, a carriage return or a form feed
-abbrev pub is_blank : ℕ → Bool
-is_blank b = b == 32 || b == 9 || b == 13 || b == 12
-
--- a letter, a digit or an underscore
-abbrev pub is_word : ℕ → Bool
-is_word b = is_ascii_alphanumeric b || b == 95
-
--- a letter or an underscore
-abbrev pub is_first : ℕ → Bool
-is_first b = is_ascii_alphabetic b || b == 95
-
--- without the blanks in front
+-- without the blanks in front: a line holds no line feed, so they are spaces, tabs, carriage returns and form feeds
 abbrev pub trimmed : List ℕ → List ℕ
 trimmed bs = drop (prefix_len is_blank bs) bs
 

@@ -1,5 +1,5 @@
 -- What the code reads, as the definitions see it.
-use Rattle.std.specs.Prelude.{ℕ, ◌-◌, List, [], ◌∷◌, option_map}
+use Rattle.std.specs.Prelude.{◌-◌, List, [], ◌∷◌, option_map}
 use Rattle.mp_directive.specs.Directives as d
 use Rattle.mp_directive.specs.Lines.{lines}
 use Rattle.mp_directive.specs.Tree as t

@@ -1,5 +1,5 @@
 // How lines stand in groups.
-ghost use Rattle.std.specs.Prelude.{◌≡◌, ◌≤◌, ◌+◌, length, false, Err, IfOk};
+ghost use Rattle.std.specs.Prelude.{◌≡◌, ◌≤◌, ◌+◌, [], length, false, Err, IfOk};
 ghost use Rattle.mp_directive.specs.Lines.{lines};
 ghost use Rattle.mp_directive.specs.Tree.{nodes_weight, with_branch, joined, is_alone, Branches};
 ghost use Rattle.mp_directive.specs.Tree as t;
@@ -88,14 +88,14 @@ impl<'t> Reader<'t> {
         groups.push(Group::Choice {
             outer: nodes,
             opener: line,
-            finished: Items::new(alloc),
+            finished: short_list(alloc)?,
             line,
             condition,
         })?;
         Ok(Reader {
             alloc,
             groups,
-            nodes: Items::new(alloc),
+            nodes: short_list(alloc)?,
         })
     }
 
@@ -115,7 +115,7 @@ impl<'t> Reader<'t> {
         Ok(Reader {
             alloc,
             groups,
-            nodes: Items::new(alloc),
+            nodes: short_list(alloc)?,
         })
     }
 
@@ -154,7 +154,7 @@ impl<'t> Reader<'t> {
         Ok(Reader {
             alloc,
             groups,
-            nodes: Items::new(alloc),
+            nodes: short_list(alloc)?,
         })
     }
 
@@ -249,6 +249,13 @@ fn refused<T>(kind: MacroKind) -> Result<T, LineFault>
     ensures { result ≡ Err (LineFault.Refused kind) }
 {
     Err(LineFault::Refused { kind })
+}
+
+// A list without elements that has room for one, since most branches are few and most bodies short.
+fn short_list<T>(alloc: Global) -> Result<Items<T>, NoMemory>
+    ensures { IfOk result (λ items. items ≡ []) }
+{
+    Ok(Items::from_vec(Vec::with_capacity(alloc, 1)?))
 }
 
 fn is_otherwise(condition: Condition) -> bool

@@ -2,7 +2,6 @@
 use Rattle.std.proofs.Common.{◌≡◌, ℕ, zero, suc, ◌+◌, ◌-◌, ◌<◌, List, [], ◌∷◌, length, Result, Ok, Err, Some, refl, sym, ap, ◌∙◌, arith}
 use Rattle.mp_outside.specs.Outside.{Outside, Listing, Later}
 use Rattle.mp_mvalue.specs.declared.fault.MacroFault.{MacroFault}
-use Rattle.mp_mvalue.specs.declared.fault.MacroFault.TheVariants as f
 use Rattle.mp_directive.specs.Results.{◌>>=◌}
 use Rattle.mp_directive.specs.Directives as d
 use Rattle.mp_directive.specs.Lines.{lines}
@@ -12,7 +11,7 @@ use Rattle.mp_directive.specs.declared.tree.Node.{Node as Code}
 use Rattle.mp_directive.proofs.Trees.{nodes-first}
 use Rattle.mp_directive.proofs.Weights.{joined-weight}
 use Rattle.mp_macro.specs.States.{State, after_alone}
-use Rattle.mp_macro.specs.Expansion.{Refusal, Macro, Including, Step, at, after_node, after_nodes, include}
+use Rattle.mp_macro.specs.Expansion.{Macro, Including, Step, at, after_node, after_nodes, include}
 use Rattle.mp_macro.specs.Says.{state_of, Makes, Placed, Told, Says, SaysHere}
 use Rattle.mp_macro.specs.declared.fault.Stop.{Stop}
 use Rattle.mp_macro.specs.declared.fault.Stop.TheVariants as s

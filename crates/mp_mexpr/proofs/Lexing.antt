@@ -2,7 +2,8 @@
 use Rattle.std.proofs.Common.{◌≡◌, ℕ, zero, suc, List, [], ◌∷◌, ◌++◌, take, drop, length, Bool, true, false, Some, None, refl, sym, ap, ◌∙◌, arith, append-nil, append_assoc}
 use Rattle.std.specs.List.{prefix_len}
 use Rattle.std.specs.Char.{is_ascii_digit}
-use Rattle.mp_mexpr.specs.Tokens.{Tok, is_blank, is_first, is_word, word_of, token_at, before, tokens_from}
+use Rattle.mp_tokens.specs.Tokens.{is_blank, is_first, is_word}
+use Rattle.mp_mexpr.specs.Tokens.{Tok, word_of, token_at, before, tokens_from}
 
 skip : (bs : List ℕ) (k : ℕ) → tokens_from bs k ≡ tokens_from (drop k bs) 0
 unfolding tokens_from

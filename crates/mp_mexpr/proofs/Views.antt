@@ -1,5 +1,5 @@
 -- The expression that a chain or an array of the code is.
-use Rattle.std.proofs.Common.{◌≡◌, List, [], ◌∷◌, ◌++◌, refl, ap, ◌∙◌, rules, Global}
+use Rattle.std.proofs.Common.{◌≡◌, List, [], ◌∷◌, ◌++◌, refl, rules, Global}
 use Rattle.std.specs.declared.boxed.Box.{Box}
 use Rattle.mp_mexpr.specs.Syntax as s
 use Rattle.mp_mexpr.specs.Shown.{expr_of, row_after, row_stepped, stepped, after, all_stepped}

@@ -1,6 +1,7 @@
 -- What each operator makes of its operands.
-use Rattle.std.specs.Prelude.{◌≡◌, ℕ, zero, suc, ◌+◌, ◌-◌, ◌*◌, ◌^◌, ℤ, pos, negsuc, ◌+ℤ◌, ◌-ℤ◌, ◌*ℤ◌, neg_ℤ, int_lt, int_le, List, [], ◌∷◌, ◌++◌, slice_get, Bool, true, false, not, if◌then◌else◌, nat_lt, Option, Some, None, Result, Ok, Err, ok_or}
+use Rattle.std.specs.Prelude.{ℕ, zero, suc, ◌^◌, ℤ, pos, negsuc, ◌+ℤ◌, ◌-ℤ◌, ◌*ℤ◌, neg_ℤ, int_lt, int_le, List, [], ◌∷◌, ◌++◌, slice_get, Bool, true, false, not, if◌then◌else◌, nat_lt, Option, Some, None, Result, Ok, Err, ok_or}
 use Rattle.std.specs.List.{list_any}
+use Rattle.mp_tokens.specs.Literals.{number_of}
 use Rattle.mp_base.specs.declared.kinds.MacroKind.{MacroKind}
 use Rattle.mp_base.specs.declared.kinds.MacroKind.TheVariants.{Unknown, WrongKind, Overflow, OutOfRange}
 use Rattle.mp_mexpr.specs.declared.operator.Operator.{Operator}
@@ -45,14 +46,9 @@ truth_of (Truth b) = Ok b
 truth_of (Whole n) = Ok (is_true n)
 truth_of _ = Err WrongKind
 
--- the number that digits write, after this number
-abbrev pub digits_after : ℕ → List ℕ → ℕ
-digits_after n [] = n
-digits_after n (d ∷ ds) = digits_after (10 * n + (d - 48)) ds
-
 -- the number that digits write
 abbrev pub digits_value : List ℕ → Valued
-digits_value ds = number (pos (digits_after 0 ds))
+digits_value ds = number (pos (number_of ds))
 
 -- the value, or that the name has none
 abbrev pub known : Option Value → Valued

@@ -1,7 +1,8 @@
 -- The tokens of an expression.
-use Rattle.std.specs.Prelude.{ℕ, zero, suc, ◌+◌, List, [], ◌∷◌, ◌++◌, map, take, slice_index, codes, Bool, true, false, not, ◌||◌, ◌&&◌, ◌==◌, nat_lt, bytes_eq, if◌then◌else◌, Option, Some, None}
-use Rattle.std.specs.Char.{is_ascii_digit, is_ascii_alphanumeric, is_ascii_alphabetic}
+use Rattle.std.specs.Prelude.{ℕ, zero, suc, ◌+◌, List, [], ◌∷◌, ◌++◌, map, take, slice_index, codes, Bool, true, false, ◌||◌, ◌&&◌, ◌==◌, nat_lt, bytes_eq, if◌then◌else◌, Option, Some, None}
+use Rattle.std.specs.Char.{is_ascii_digit}
 use Rattle.std.specs.List.{prefix_len}
+use Rattle.mp_tokens.specs.Tokens.{is_blank, is_first, is_word, is_inside}
 use Rattle.mp_mexpr.specs.declared.operator.Operator.{Operator}
 use Rattle.mp_mexpr.specs.declared.operator.Operator.TheVariants.{Or, And, Equal, Different, Less, Greater, AtMost, AtLeast, In, Range, Add, Subtract, Multiply}
 use Rattle.mp_mexpr.specs.declared.token.Mark.{Mark}
@@ -33,22 +34,6 @@ begun_of (Some x) = Some (tok_of x.0, x.1)
 -- the tokens of the code
 abbrev pub toks : List Token → List Tok
 toks ts = map tok_of ts
-
--- a space, a tab, a carriage return, a line feed or a form feed
-abbrev pub is_blank : ℕ → Bool
-is_blank b = b == 32 || b == 9 || b == 13 || b == 10 || b == 12
-
--- a letter or an underscore
-abbrev pub is_first : ℕ → Bool
-is_first b = is_ascii_alphabetic b || b == 95
-
--- a letter, a digit or an underscore
-abbrev pub is_word : ℕ → Bool
-is_word b = is_ascii_alphanumeric b || b == 95
-
--- neither a quote nor a line feed
-abbrev pub is_inside : ℕ → Bool
-is_inside b = not (b == 34) && not (b == 10)
 
 -- the operator of two bytes
 abbrev pub pair_of : ℕ → ℕ → Option Operator
@@ -89,7 +74,7 @@ pair_at b (next ∷ bs) = pair_of b next
 -- the text after a quote, up to the next on the line
 unfoldable pub quoted_at : List ℕ → Begun
 quoted_at bs =
-    if slice_index bs (prefix_len is_inside bs) == 34 then Some (Quoted (take (prefix_len is_inside bs) bs), prefix_len is_inside bs + 1) else None
+    if slice_index bs (prefix_len (is_inside 34) bs) == 34 then Some (Quoted (take (prefix_len (is_inside 34) bs) bs), prefix_len (is_inside 34) bs + 1) else None
 
 -- the token that begins here
 unfoldable pub token_at : List ℕ → Begun

@@ -1,64 +1,13 @@
 // From the bytes of an expression to its tokens.
 ghost use Rattle.std.specs.Prelude.{◌≡◌, ◌∷◌, ◌+◌, ◌≤◌, ◌<◌, length, IfOk, IfSome};
-ghost use Rattle.std.specs.List.{prefix_len};
-ghost use Rattle.std.specs.Char.{is_ascii_digit};
-ghost use Rattle.mp_mexpr.specs.Tokens.{tok_of, toks, is_blank, is_first, is_word, is_inside, pair_of, operator_of, mark_of, word_of, pair_at, sign_at, begun_of, quoted_at, token_at, tokens, opens, closes, is_deep};
+ghost use Rattle.mp_mexpr.specs.Tokens.{tok_of, toks, pair_of, operator_of, mark_of, word_of, pair_at, sign_at, begun_of, quoted_at, token_at, tokens, opens, closes, is_deep};
 
 use crate::operator::Operator;
 use crate::token::{Mark, Token};
 use mp_base::NoMemory;
+use mp_bytes::{Run, is_blank, is_first, run_length};
 use sqlite_items::Items;
 use std::alloc::Global;
-
-// A space, a tab, a carriage return, a line feed or a form feed.
-fn is_blank(b: u8) -> bool
-    ensures { result ≡ is_blank b }
-{
-    b == b' ' || b == b'\t' || b == b'\r' || b == b'\n' || b == 12
-}
-
-// A letter or an underscore.
-fn is_first(b: u8) -> bool
-    ensures { result ≡ is_first b }
-{
-    b.is_ascii_alphabetic() || b == b'_'
-}
-
-fn digits_length(bytes: &[u8]) -> usize
-    ensures value { result ≡ prefix_len is_ascii_digit bytes.now }
-    ensures within { result ≤ length bytes.now }
-{
-    for (i, b) in bytes.iter().enumerate() {
-        if !b.is_ascii_digit() {
-            return i;
-        }
-    }
-    bytes.len()
-}
-
-fn word_length(bytes: &[u8]) -> usize
-    ensures value { result ≡ prefix_len is_word bytes.now }
-    ensures within { result ≤ length bytes.now }
-{
-    for (i, b) in bytes.iter().enumerate() {
-        if !b.is_ascii_alphanumeric() && *b != b'_' {
-            return i;
-        }
-    }
-    bytes.len()
-}
-
-fn text_length(bytes: &[u8]) -> usize
-    ensures value { result ≡ prefix_len is_inside bytes.now }
-    ensures within { result ≤ length bytes.now }
-{
-    for (i, b) in bytes.iter().enumerate() {
-        if *b == b'"' || *b == b'\n' {
-            return i;
-        }
-    }
-    bytes.len()
-}
 
 fn pair_of(b: u8, next: u8) -> Option<Operator>
     ensures { result ≡ pair_of b next }
@@ -147,7 +96,7 @@ fn quoted_at<'t>(more: &'t [u8]) -> Option<(Token<'t>, usize)>
     ensures value { begun_of result ≡ quoted_at more.now }
     ensures within { IfSome result (λ x. x.1 ≤ length more.now) }
 {
-    let length = text_length(more);
+    let length = run_length(Run::Inside(b'"'), more);
     if length < more.len() && more[length] == b'"' {
         return Some((Token::Quoted(&more[..length]), length + 1));
     }
@@ -162,12 +111,12 @@ fn token_at<'t>(text: &'t [u8]) -> Option<(Token<'t>, usize)>
 {
     let (first, more) = text.split_first()?;
     if first.is_ascii_digit() {
-        let length = digits_length(more);
-        return Some((Token::Digits(&text[..length + 1]), length));
+        let digits = run_length(Run::Digits, more);
+        return Some((Token::Digits(&text[..digits + 1]), digits));
     }
     if is_first(*first) {
-        let length = word_length(more);
-        return Some((word_of(&text[..length + 1]), length));
+        let word = run_length(Run::Word, more);
+        return Some((word_of(&text[..word + 1]), word));
     }
     if *first == b'"' {
         return quoted_at(more);

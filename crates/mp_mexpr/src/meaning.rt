@@ -10,11 +10,9 @@ ghost use Rattle.mp_mvalue.specs.declared.value.Value.TheVariants as v;
 
 use crate::operator::Operator;
 use mp_base::MacroKind;
+use mp_bytes::number_up_to;
 use mp_mvalue::{Env, Gathered, MacroFault, SharedValue, copy, is_among, join, join_texts, same};
 use std::alloc::Global;
-
-// The first number that passes 64 bits.
-const BOUND: u128 = 0x8000_0000_0000_0000;
 
 pub(crate) fn refused<T>(kind: MacroKind) -> Result<T, MacroFault>
     ensures { result ≡ Err (MacroFault.Refused kind) }
@@ -90,14 +88,10 @@ fn negative(n: i64) -> Result<SharedValue, MacroFault>
 pub(crate) fn digits_value(digits: &[u8]) -> Result<SharedValue, MacroFault>
     ensures { GivesValue result (digits_value digits.now) }
 {
-    let mut n: u128 = 0;
-    for digit in digits {
-        n = n * 10 + digit.saturating_sub(48) as u128;
-        if n >= BOUND {
-            return refused(MacroKind::Overflow);
-        }
+    match number_up_to(i64::MAX as u64, digits) {
+        Some(n) => Ok(SharedValue::Whole(n as i64)),
+        None => refused(MacroKind::Overflow),
     }
-    Ok(SharedValue::Whole(n as i64))
 }
 
 // How many numbers there are from the first to the last.

@@ -1,21 +1,12 @@
 -- Laws of definitions that follow one another.
 use Rattle.std.proofs.lemmas.List.{drop_more}
 use Rattle.std.proofs.lemmas.Option.{slice_get_within, get_or_from_slice_get}
-use Rattle.std.proofs.Common.{slice_get, ◌≡◌, ℕ, suc, ◌+◌, ◌-◌, ◌*◌, ◌≤◌, ◌<◌, List, [], ◌∷◌, ◌++◌, drop, refl, ap, sym, ◌∙◌, arith, Bool, true, false, Option, Some, None, Result, Ok, Err, nat_le, if◌then◌else◌, append_assoc, subst, take}
+use Rattle.std.proofs.Common.{slice_get, ◌≡◌, ℕ, suc, ◌+◌, ◌-◌, ◌≤◌, ◌<◌, List, [], ◌∷◌, ◌++◌, drop, refl, ap, sym, ◌∙◌, arith, Bool, true, false, Option, Some, None, Result, Ok, Err, if◌then◌else◌, append_assoc, subst, take}
 use Rattle.std.specs.Prelude.{IsTrue, is_some, nat_lt, position, ◌&&◌}
 use Rattle.mp_mvalue.specs.declared.defines.Define.{Define}
 use Rattle.mp_mvalue.specs.declared.value.Value.{Value}
-use Rattle.mp_words.specs.Words.{digits_after, is_definable, is_value, value_of, is_equals, define_at, define_or, with_define, defines_of, define_of}
+use Rattle.mp_words.specs.Words.{is_definable, is_value, value_of, is_equals, define_at, define_or, with_define, defines_of, define_of}
 use Rattle.mp_words.specs.Shown.{wrong_of}
-
-pub digits_after-grows : (n : ℕ) (ds : List ℕ) → n ≤ digits_after n ds
-digits_after-grows n [] = omega arith
-digits_after-grows n (d ∷ ds) = omega (arith, digits_after-grows (10 * n + (d - 48)) ds)
-
--- a number that has passed the most stays past it
-pub none_past : (n most : ℕ) (ds rest : List ℕ) → most < n → digits_after n rest ≡ digits_after 0 ds → None ≡ (if nat_le (digits_after 0 ds) most then Some (digits_after 0 ds) else None)
-none_past n most ds rest lt e =
-    let over : most < digits_after 0 ds = omega (arith, digits_after-grows n rest) in grind arith
 
 -- what is there where something is
 pub some_if : (b : Bool) (d : Define) → IsTrue (is_some (if b then Some d else None)) → (if b then Some d else None) ≡ Some d

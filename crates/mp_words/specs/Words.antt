@@ -1,9 +1,10 @@
 -- The words of the command line (modpath's own).
-use Rattle.std.specs.Prelude.{ℕ, zero, suc, ◌+◌, ◌*◌, ◌-◌, ◌^◌, ℤ, pos, neg_ℤ, List, [], ◌∷◌, length, take, drop, codes, Bool, true, false, not, ◌&&◌, ◌||◌, ◌==◌, nat_lt, nat_le, bytes_eq, position, if◌then◌else◌, Option, Some, None, Result, Ok, Err}
+use Rattle.std.specs.Prelude.{ℕ, zero, suc, ◌+◌, ◌-◌, ◌^◌, ℤ, pos, neg_ℤ, List, [], ◌∷◌, length, take, drop, codes, Bool, true, false, not, ◌&&◌, ◌||◌, ◌==◌, nat_lt, nat_le, bytes_eq, position, if◌then◌else◌, Option, Some, None, Result, Ok, Err}
 use Rattle.std.specs.Char.{is_ascii_digit}
 use Rattle.std.specs.List.{list_all, list_any}
 use Rattle.mp_base.specs.declared.job.Job.{Job}
 use Rattle.mp_base.specs.declared.job.Job.TheVariants as j
+use Rattle.mp_tokens.specs.Literals.{number_of}
 use Rattle.mp_tokens.specs.Tokens.{is_first, is_word}
 use Rattle.mp_tokens.specs.Terminals.{is_reserved}
 use Rattle.mp_mvalue.specs.declared.value.Value.{Value, Whole, Truth, Text}
@@ -41,11 +42,6 @@ is_barred b = b == 34 || b == 10
 abbrev pub is_value : List ℕ → Bool
 is_value text = nat_le (length text) 128 && not (list_any is_barred text)
 
--- the number that digits write, after this number
-abbrev pub digits_after : ℕ → List ℕ → ℕ
-digits_after n [] = n
-digits_after n (d ∷ ds) = digits_after (10 * n + (d - 48)) ds
-
 -- digits, one at least
 abbrev pub are_digits : List ℕ → Bool
 are_digits [] = false
@@ -53,7 +49,7 @@ are_digits (d ∷ ds) = list_all is_ascii_digit (d ∷ ds)
 
 -- the number that digits write, where it is at most this one
 abbrev pub number_within : ℕ → List ℕ → Option ℕ
-number_within most ds = if are_digits ds && nat_le (digits_after 0 ds) most then Some (digits_after 0 ds) else None
+number_within most ds = if are_digits ds && nat_le (number_of ds) most then Some (number_of ds) else None
 
 -- the value of a text that may be a number: the number with its sign, or else the text
 abbrev pub number_or : Option ℕ → (ℕ → ℤ) → List ℕ → Value

@@ -1,12 +1,13 @@
 // A word NAME=VALUE.
-ghost use Rattle.std.specs.Prelude.{◌≡◌, ◌<◌, Some, None, length, position, nat_le, IfOk, IsTrue, IfSome, MatchOption, is_some, if◌then◌else◌};
+ghost use Rattle.std.specs.Prelude.{◌≡◌, ◌<◌, Some, None, length, position, IfOk, IsTrue, IfSome, MatchOption, is_some};
 ghost use Rattle.std.specs.Char.{is_ascii_digit};
 ghost use Rattle.std.specs.List.{list_all, list_any};
 ghost use Rattle.mp_tokens.specs.Tokens.{is_first, is_word};
 ghost use Rattle.mp_mvalue.specs.declared.value.Value.{Whole, Text};
-ghost use Rattle.mp_words.specs.Words.{is_name, is_taken, is_definable, is_barred, is_value, digits_after, are_digits, number_within, number_value, value_of, is_equals, define_of};
+ghost use Rattle.mp_words.specs.Words.{is_name, is_taken, is_definable, is_barred, is_value, are_digits, number_within, number_value, value_of, is_equals, define_of};
 
 use mp_base::{Bytes, NoMemory};
+use mp_bytes::{is_first, is_word, number_up_to};
 use mp_mvalue::{Define, Value};
 use std::alloc::Global;
 
@@ -58,18 +59,10 @@ fn is_name(name: &[u8]) -> bool
     is_first(*first) && all_words(more) && more.len() < 128
 }
 
-fn is_first(b: u8) -> bool
-    ensures { result ≡ is_first b }
-{
-    b.is_ascii_alphabetic() || b == b'_'
-}
-
 fn all_words(bytes: &[u8]) -> bool
     ensures { result ≡ list_all is_word bytes.now }
 {
-    bytes
-        .iter()
-        .all(|b| b.is_ascii_alphanumeric() || *b == b'_')
+    bytes.iter().all(|b| is_word(*b))
 }
 
 fn is_taken(name: &[u8]) -> bool
@@ -118,20 +111,6 @@ fn number_within(most: u64, digits: &[u8]) -> Option<u64>
         return None;
     }
     number_up_to(most, digits)
-}
-
-// The number that digits write, where it is at most this one.
-fn number_up_to(most: u64, digits: &[u8]) -> Option<u64>
-    ensures { result ≡ (if nat_le (digits_after 0 digits.now) most then Some (digits_after 0 digits.now) else None) }
-{
-    let mut number: u128 = 0;
-    for digit in digits {
-        number = number * 10 + digit.saturating_sub(b'0') as u128;
-        if number > most as u128 {
-            return None;
-        }
-    }
-    Some(number as u64)
 }
 
 // A whole number of 64 bits, or None.

@@ -1,6 +1,5 @@
 use Rattle.std.proofs.Common.{length, sym, ap, ◌∙◌, subst, arith}
 use Rattle.mp_directive.specs.Lines.{lines}
-use Rattle.mp_directive.specs.Directives as d
 use Rattle.mp_directive.specs.Tree.{is_alone}
 use Rattle.mp_directive.specs.Groups.{AreAlone}
 use Rattle.mp_directive.proofs.Joined.{drop-next}
