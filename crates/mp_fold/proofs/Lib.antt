@@ -1,3 +1,4 @@
 pub mod Chains
+pub mod Reported
 pub mod Steps
 pub mod Tens

@@ -1,3 +1,4 @@
 pub mod Assigned
 pub mod Near
+pub mod Reported
 pub mod Shown

@@ -10,6 +10,6 @@ pub mod tested;
 pub mod values;
 
 pub use assign::assign_values;
-pub use fault::FoldFault;
+pub use fault::{FoldFault, Name, lowest_terms};
 pub use tested::{exponent_value, exponents};
 pub use values::value_of;
