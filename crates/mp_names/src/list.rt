@@ -52,6 +52,16 @@ impl<'t> NameList<'t> {
         Ok(added)
     }
 
+    /// The same names.
+    pub fn copy(&self) -> Result<NameList<'t>, NoMemory>
+        ensures { IfOk result (λ names. names ≡ self.now) }
+    {
+        match self.set.clone() {
+            Ok(set) => Ok(NameList { set }),
+            Err(_) => Err(NoMemory),
+        }
+    }
+
     /// Whether the name is there.
     pub fn has(&self, name: &[u8]) -> bool
         ensures { result ≡ list_any (bytes_eq name.now) self.now }
