@@ -1,3 +1,4 @@
 pub mod Chains
+pub mod Collects
 pub mod Steps
 pub mod Tens

@@ -1,3 +1,4 @@
 pub mod Assigned
+pub mod Collected
 pub mod Near
 pub mod Shown
