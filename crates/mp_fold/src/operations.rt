@@ -1,5 +1,6 @@
 // Operations on fractions, with their limits.
-ghost use Rattle.std.specs.Prelude.{◌≡◌, IfOk};
+ghost use Rattle.std.specs.Prelude.{◌≡◌, ◌≤◌, unsigned_abs, IfOk};
+ghost use Rattle.std.specs.Option.{ForSome};
 ghost use Rattle.mp_rational.specs.Fraction.{less, whole};
 ghost use Rattle.mp_frac.specs.Value.{value_of, outcome_of};
 ghost use Rattle.mp_values.specs.Limits.{limited, told};
@@ -130,7 +131,8 @@ pub(crate) fn near_exponent<'t>(
     sign: Option<Sign>,
     y: Value<'t>,
 ) -> Result<i8, FoldFault<'t>>
-    ensures { shown (λ k. k) result ≡ and_then (shown value_of y.entry) (λ b. exponent_at limited at sign b) }
+    ensures given { shown (λ k. k) result ≡ and_then (shown value_of y.entry) (λ b. exponent_at limited at sign b) }
+    ensures near { IfOk result (λ k. unsigned_abs k ≤ 16) }
 {
     match y {
         Ok(b) => near_whole(at, with_sign_if(sign, b)),
@@ -142,6 +144,7 @@ pub(crate) fn near_exponent<'t>(
 fn near_whole<'t>(at: u32, exponent: Frac) -> Result<i8, FoldFault<'t>>
     ensures given { shown (λ k. k) result ≡ limited.exponent at (value_of exponent) }
     ensures whole { IfOk result (λ k. value_of exponent ≡ whole k) }
+    ensures near { IfOk result (λ k. unsigned_abs k ≤ 16) }
 {
     let parts = exponent.parts();
     match near(&parts) {
@@ -157,7 +160,8 @@ fn near_whole<'t>(at: u32, exponent: Frac) -> Result<i8, FoldFault<'t>>
 
 // The whole number that these parts in lowest terms are, from -16 to 16.
 fn near(parts: &Ratio) -> Option<i8>
-    ensures { result ≡ near_of parts.now.n parts.now.d }
+    ensures given { result ≡ near_of parts.now.n parts.now.d }
+    ensures near { ForSome result (λ k. unsigned_abs k ≤ 16) }
 {
     if parts.d == 1 && -16 <= parts.n && parts.n <= 16 {
         Some(parts.n as i8)

@@ -6,6 +6,7 @@ ghost use Rattle.mp_names.specs.Full.{IsFull};
 
 use crate::fault::NameFault;
 use indexmap::IndexSet;
+use mp_base::NoMemory;
 use std::alloc::Global;
 use std::marker::Model;
 
@@ -60,6 +61,16 @@ impl<'t> NameList<'t> {
     {
         let _ = &self.set;
         self.set.len() >= MOST && !self.has(name)
+    }
+
+    /// The same names.
+    pub fn copy(&self) -> Result<NameList<'t>, NoMemory>
+        ensures { IfOk result (λ names. names ≡ self.now) }
+    {
+        match self.set.clone() {
+            Ok(set) => Ok(NameList { set }),
+            Err(_) => Err(NoMemory),
+        }
     }
 
     /// Whether the name is there.
