@@ -1,3 +1,4 @@
 pub mod Faults
+pub mod From
 pub mod Gives
 pub mod Parts

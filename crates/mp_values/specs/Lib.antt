@@ -1,4 +1,5 @@
 pub mod Chained
+pub mod Exponents
 pub mod Limits
 pub mod ModelOf
 pub mod Names
