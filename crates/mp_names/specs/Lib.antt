@@ -1,4 +1,5 @@
 pub mod Coded
 pub mod Entry
+pub mod Full
 pub mod Named
 pub mod Numbers
