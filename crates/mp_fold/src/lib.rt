@@ -11,5 +11,5 @@ pub mod values;
 
 pub use assign::assign_values;
 pub use exponents::{Exponent, ExponentFault, add_exponents};
-pub use fault::FoldFault;
+pub use fault::{FoldFault, Name, lowest_terms};
 pub use values::value_of;

@@ -8,8 +8,8 @@ ghost use Rattle.mp_values.specs.Values.{with_sign, with_sign_if, chosen, expone
 ghost use Rattle.mp_fold.specs.Near.{near_of};
 ghost use Rattle.mp_fold.specs.Shown.{shown, and_then};
 
-use crate::fault::FoldFault;
-use mp_base::{DataKind, Ratio};
+use crate::fault::{FoldFault, reduced};
+use mp_base::{DataKind, DataRefusal, Ratio, Reduced};
 use mp_frac::{Frac, FracFault};
 use mp_syntax::{Function, Operator, Sign};
 use std::cmp::Ordering;
@@ -26,12 +26,12 @@ fn told<'t>(at: u32, x: Frac, y: Frac, outcome: Result<Frac, FracFault>) -> Valu
         Err(FracFault::Overflow) => DataKind::Overflow,
         Err(FracFault::ZeroDivisor) => DataKind::ZeroDivisor,
     };
-    Err(FoldFault::Refused {
+    Err(FoldFault::Refused(DataRefusal {
         kind,
         at,
-        first: x,
-        second: y,
-    })
+        first: reduced(x),
+        second: reduced(y),
+    }))
 }
 
 // What joins two operands at this place.
@@ -149,12 +149,12 @@ fn near_whole<'t>(at: u32, exponent: Frac) -> Result<i8, FoldFault<'t>>
     let parts = exponent.parts();
     match near(&parts) {
         Some(k) => Ok(k),
-        None => Err(FoldFault::Refused {
+        None => Err(FoldFault::Refused(DataRefusal {
             kind: DataKind::Exponent,
             at,
-            first: exponent,
-            second: Frac::ratio(16, 1),
-        }),
+            first: reduced(exponent),
+            second: Reduced::whole(16),
+        })),
     }
 }
 

@@ -1,12 +1,14 @@
 // Names of three kinds.
-ghost use Rattle.std.specs.Prelude.{◌≡◌, ◌<◌, ◌+◌, ◌^◌, ℕ, ℤ, List, not, true, None, is_some, length, option_map, if◌then◌else◌, IfOk, OnOk, OnErr};
+ghost use Rattle.std.specs.Prelude.{◌≡◌, ◌<◌, ◌+◌, ◌^◌, ℕ, ℤ, List, not, true, None, is_some, length, option_map, if◌then◌else◌, ◌↔◌, Err, IfOk, OnOk, OnErr};
 ghost use Rattle.std.specs.Option.{ForSome};
 ghost use Rattle.mp_values.specs.Names as v;
 ghost use Rattle.mp_values.specs.Names.{named_term};
+ghost use Rattle.mp_names.specs.Full.{IsFullOf};
 ghost use Rattle.mp_names.specs.Named.{no_names, of_kind, kind_in, with_name};
 ghost use Rattle.mp_names.specs.Numbers.{id_of, term_by};
 ghost use Rattle.mp_names.specs.Naming.{IsNamed, name_of};
 
+use crate::fault::NameFault;
 use crate::list::NameList;
 use mp_base::NoMemory;
 use mp_statements::NameKind;
@@ -50,9 +52,10 @@ impl<'t> Names<'t> {
     }
 
     /// Adds the name as the last one of its kind, unless it is there under any kind, and says whether it did.
-    pub fn add(&mut self, kind: NameKind, name: &'t [u8]) -> Result<bool, NoMemory>
+    pub fn add(&mut self, kind: NameKind, name: &'t [u8]) -> Result<bool, NameFault>
         ensures added { IfOk result (λ r. r ≡ not (is_some (kind_in self.old name.now))) }
         ensures names { IfOk result (λ r. self.new ≡ (if r then with_name kind name.now self.old else self.old)) }
+        ensures full { (result ≡ Err NameFault.Full) ↔ IsFullOf kind self.old name.now }
         ensures err { OnErr result (self.new ≡ self.old) }
     {
         if self.kind(name).is_some() {
@@ -62,10 +65,11 @@ impl<'t> Names<'t> {
     }
 
     // Adds a name that is there under no kind.
-    fn add_new(&mut self, kind: NameKind, name: &'t [u8]) -> Result<bool, NoMemory>
+    fn add_new(&mut self, kind: NameKind, name: &'t [u8]) -> Result<bool, NameFault>
         requires { kind_in self.old name.now ≡ None }
         ensures added { IfOk result (λ r. r ≡ true) }
         ensures names { OnOk result (self.new ≡ with_name kind name.now self.old) }
+        ensures full { (result ≡ Err NameFault.Full) ↔ IsFullOf kind self.old name.now }
         ensures err { OnErr result (self.new ≡ self.old) }
     {
         match kind {

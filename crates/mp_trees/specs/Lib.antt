@@ -1,4 +1,3 @@
 pub mod Faults
-pub mod From
 pub mod Gives
 pub mod Parts

@@ -7,7 +7,7 @@ use Rattle.mp_syntax.specs.declared.operator.Sign.TheVariants as sign
 use Rattle.mp_syntax.specs.declared.operator.Function.{Function}
 use Rattle.mp_syntax.specs.declared.operator.Function.TheVariants as function
 use Rattle.mp_syntax.specs.Syntax.{Expr, Number, Variable, Signed, Binary, Power, Paren, Call}
-use Rattle.mp_statements.specs.Statements.{Item, Statement, Declares, Assigns, Model}
+use Rattle.mp_statements.specs.Statements.{Statement, Declares, Assigns, Model}
 use Rattle.mp_values.specs.Table.{Table, unset, value_in, with_value}
 use Rattle.mp_values.specs.Names.{names_of}
 use Rattle.mp_values.specs.Limits.{Folded, ◌>>=◌, known, Limits, limited}

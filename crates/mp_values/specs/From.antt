@@ -23,6 +23,10 @@ rest_of (k ∷ ks) = ks
 abbrev pub Taken : Type 0 → Type 0
 Taken X = Folded (X × List ℤ)
 
+-- what is given, where nothing is left
+abbrev pub used_up : {X : Type 0} → Folded X → Taken X
+used_up r = r >>= λ x. Ok (x, [])
+
 -- the term of an expression, and the exponents that are left
 abbrev pub term_from : Names → Expr → List ℤ → Taken sem.Term
 term_from ns (Number literal at) ks = limited.literal at (decimal_of literal) >>= λ n. Ok (number_by n, ks)
