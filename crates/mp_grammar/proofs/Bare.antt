@@ -1,6 +1,6 @@
 -- What has no places stays as it is where they are taken away.
-use Rattle.std.proofs.Common.{◌≡◌, List, [], ◌∷◌, map, Option, Some, None, option_map, refl, ap, ◌∙◌}
-use Rattle.mp_syntax.specs.Syntax.{Named, Expr, Number, Variable, Signed, Binary, Power, Paren, Call}
+use Rattle.std.proofs.Common.{◌≡◌, List, [], ◌∷◌, map, Option, Some, None, refl, ap}
+use Rattle.mp_syntax.specs.Syntax.{Expr, Number, Variable, Signed, Binary, Power, Paren, Call}
 use Rattle.mp_statements.specs.Statements.{Item, Statement, Declares, Assigns, Model}
 use Rattle.mp_format.proofs.Stands.{ap_two}
 use Rattle.mp_expressions.specs.Script.{bare_name, bare}
@@ -20,7 +20,7 @@ each_again : {X : Type 0} (b : X → X) → ((x : X) → b (b x) ≡ b x) → (x
 each_again b h [] = refl
 each_again b h (x ∷ xs) = ap_two (λ y ys. y ∷ ys) (h x) (each_again b h xs)
 
-item_again : (x : Item) → bare_item (bare_item x) ≡ bare_item x
+pub item_again : (x : Item) → bare_item (bare_item x) ≡ bare_item x
 item_again x = by x.right
   where
     by : (r : Option Expr) → bare_item (bare_item (record { left = x.left; right = r })) ≡ bare_item (record { left = x.left; right = r })

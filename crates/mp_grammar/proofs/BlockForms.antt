@@ -1,18 +1,15 @@
 -- Tags and shocks that read from the tokens of a text are in form.
-use Rattle.std.proofs.Common.{◌≡◌, ℕ, ◌<◌, List, [], ◌∷◌, length, inl, inr, ◌⊎◌, Option, Some, None, refl, sym, ap, ◌∙◌, subst, arith}
-use Rattle.mp_tokens.specs.Tokens.{Tok}
+use Rattle.std.proofs.Common.{ℕ, ◌<◌, List, length, inl, inr, Option, Some, None, ap, ◌∙◌, subst, arith}
 use Rattle.mp_tokens.specs.declared.terminal.Terminal.TheVariants as t
-use Rattle.mp_syntax.specs.declared.operator.Sign.{Sign}
-use Rattle.mp_syntax.specs.Syntax.{Named, Expr}
-use Rattle.mp_format.specs.Pieces.{IsLiteral, AreDigits}
-use Rattle.mp_format.specs.Format.{Every, Format, opt, choose, Made}
+use Rattle.mp_format.specs.Pieces.{AreDigits}
+use Rattle.mp_format.specs.Format.{Format, opt, choose, Made}
 use Rattle.mp_format.specs.Notation.{of, ◌▸◌, ◌⇒◌, some_of}
 use Rattle.mp_format.specs.Spelling.{FitsAll, FitsOpt}
 use Rattle.mp_grammar.specs.Tags.{Tag, tag, tags, further_tag}
-use Rattle.mp_grammar.specs.Shocks.{Period, period, Value, Literal, Inside, shock_value, ShockKind, Paths, Deviation, paths, deviation, Shock, shock, shocks}
+use Rattle.mp_grammar.specs.Shocks.{Period, period, Value, Inside, shock_value, ShockKind, Deviation, paths, deviation, Shock, shock, shocks}
 use Rattle.mp_format.proofs.TokenForms.{IsToken, name_is, whole_is, number_is, text_is}
 use Rattle.mp_grammar.specs.Levels.{expression}
-use Rattle.mp_grammar.specs.Statements.{IsExpression, IsNamed}
+use Rattle.mp_grammar.specs.Statements.{IsNamed}
 use Rattle.mp_grammar.specs.Tags.{IsTag}
 use Rattle.mp_grammar.specs.Shocks.{IsPeriod, IsValue, IsKind, IsShock}
 use Rattle.mp_grammar.proofs.TextForms.{each_form, name_form, expression_form}

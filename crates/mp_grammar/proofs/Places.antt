@@ -1,15 +1,14 @@
 -- What reads alike but for places is the same without places.
-use Rattle.std.proofs.Common.{◌≡◌, ℕ, zero, suc, List, [], ◌∷◌, map, inl, inr, Option, option_map, refl, sym, ap, ◌∙◌, subst}
-use Rattle.mp_tokens.specs.Tokens.{Tok}
+use Rattle.std.proofs.Common.{ℕ, zero, suc, ◌∷◌, map, Option, option_map, refl, subst}
 use Rattle.mp_statements.specs.declared.kind.NameKind.{NameKind}
 use Rattle.mp_statements.specs.declared.kind.NameKind.TheVariants as kind
-use Rattle.mp_syntax.specs.Syntax.{Named, Expr}
-use Rattle.mp_statements.specs.Statements.{Item, Statement, Declares, Assigns, Model}
+use Rattle.mp_syntax.specs.Syntax.{Expr}
+use Rattle.mp_statements.specs.Statements.{Declares, Assigns, Model}
 use Rattle.mp_format.specs.Format.{Alike}
 use Rattle.mp_expressions.specs.Script.{bare_name, bare}
 use Rattle.mp_expressions.specs.Expressions.{sum, atom, flat_atom}
 use Rattle.mp_expressions.specs.Productions.{Whole, expr, name, spaced_name}
-use Rattle.mp_grammar.specs.Productions.{further_name, names, declared, declares, assigns, item, model, statement, statements}
+use Rattle.mp_grammar.specs.Productions.{further_name, declared, declares, assigns, item, model, statement, statements}
 use Rattle.mp_grammar.specs.Levels.{expression, flat, deeper}
 use Rattle.mp_grammar.specs.Statements.{bare_item, bare_statement}
 use Rattle.mp_format.proofs.Whole.{whole-alike}
@@ -44,7 +43,7 @@ unfolding assigns
 assigns_bares e h =
     via_bares _ _ (paired bare_name bare) bare_statement (λ p. Assigns p.0 p.1) (λ p. refl) (both_bares _ _ bare_name bare (back_bares _ _ bare_name name_bares) (back_bares _ _ bare h))
 
-item_bares : (e : Whole) → Bares (expr e) bare → Bares (item e) bare_item
+pub item_bares : (e : Whole) → Bares (expr e) bare → Bares (item e) bare_item
 unfolding item
 item_bares e h =
     via_bares _ _ (paired bare (option_map bare)) bare_item (λ (p : Expr × Option Expr). record { left = p.0; right = p.1 }) (λ p. refl) (both_bares _ _ bare (option_map bare) h (back_bares _ _ (option_map bare) (opt_bares _ bare (front_bares _ _ bare h))))

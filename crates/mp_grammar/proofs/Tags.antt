@@ -1,19 +1,19 @@
 -- Tags in form have trees with their values, and read back; and what some of these texts are.
-use Rattle.std.proofs.Common.{◌≡◌, ℕ, ◌<◌, List, [], ◌∷◌, length, map, Option, Some, None, Ok, codes, refl, sym, ap, ◌∙◌}
+use Rattle.std.proofs.Common.{◌≡◌, ℕ, ◌<◌, List, [], ◌∷◌, length, map, Some, None, Ok, codes, refl, sym, ap, ◌∙◌}
 use Rattle.mp_tokens.specs.Tokens.{Tok, tokens}
 use Rattle.mp_tokens.specs.declared.terminal.Terminal.TheVariants as t
 use Rattle.mp_statements.specs.declared.kind.NameKind.TheVariants as kind
 use Rattle.mp_syntax.specs.declared.operator.Operator.TheVariants as operator
 use Rattle.mp_syntax.specs.Syntax.{Named, Expr, Number, Variable, Binary}
-use Rattle.mp_statements.specs.Statements.{Statement, Declares, Assigns, Model}
+use Rattle.mp_statements.specs.Statements.{Declares, Assigns, Model}
 use Rattle.mp_format.specs.Format.{Reads}
 use Rattle.mp_format.specs.Notation.{of}
 use Rattle.mp_expressions.specs.Script.{bare_name, expr_pieces}
-use Rattle.mp_format.specs.Spelling.{Tree, value, Fits, FitsAll, text, pieces, some_tree}
+use Rattle.mp_format.specs.Spelling.{value, Fits, FitsAll, text}
 use Rattle.mp_expressions.specs.Productions.{Whole}
 use Rattle.mp_grammar.specs.Productions.{statements, statement, declares, assigns, model, item}
 use Rattle.mp_grammar.specs.Tags.{Tag, tag, tags, further_tag}
-use Rattle.mp_grammar.specs.Shocks.{Paths, Inside, Literal, Shock, shock, shocks, paths, deviation}
+use Rattle.mp_grammar.specs.Shocks.{Paths, Inside, Literal, shock, shocks, paths, deviation}
 use Rattle.mp_format.proofs.TextLaws.{back}
 use Rattle.mp_grammar.proofs.Spaced.{tags_spaced}
 use Rattle.mp_format.proofs.Stands.{Stands, some_stands}
@@ -27,7 +27,7 @@ tag_stands : (t : Tag) → IsTag t → Stands tag (tag_tree t) (bare_tag t)
 unfolding value Fits tag tag_tree
 tag_stands t is = record { value = refl; fits = ((is.0, tt), is.1) }
 
-tags_stand : (xs : List Tag) → 0 < length xs → FitsAll IsTag xs → Stands tags (tags_tree xs) (map bare_tag xs)
+pub tags_stand : (xs : List Tag) → 0 < length xs → FitsAll IsTag xs → Stands tags (tags_tree xs) (map bare_tag xs)
 unfolding value Fits tags further_tag tags_tree
 tags_stand xs some is =
     let h = some_stands (of t.Comma) tag tt no_tag tag_tree bare_tag IsTag tt tag_stands xs some is in
@@ -38,7 +38,7 @@ unfolding tag
 tag_bares =
     via_bares _ _ (paired bare_name unplaced) bare_tag (λ (p : Named × Tok). record { name = p.0; text = p.1.bytes }) (λ p. refl) (both_bares _ _ bare_name unplaced (back_bares _ _ bare_name (stands_bares _ _ _ bare_name (λ u. refl))) (tok_bares _ _))
 
-tags_bares : Bares tags (map bare_tag)
+pub tags_bares : Bares tags (map bare_tag)
 unfolding tags further_tag
 tags_bares = front_bares _ _ _ (back_bares _ _ _ (some_bares (of t.Comma) tag bare_tag tag_bares))
 

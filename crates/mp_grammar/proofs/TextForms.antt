@@ -1,17 +1,17 @@
 -- What reads from the tokens of a text is in form.
-use Rattle.std.proofs.Common.{◌≡◌, ℕ, zero, suc, ◌<◌, List, [], ◌∷◌, length, map, inl, inr, ◌⊎◌, Option, Some, None, Ok, Bool, true, refl, sym, ap, ◌∙◌, subst, arith}
+use Rattle.std.proofs.Common.{◌≡◌, ℕ, zero, suc, List, [], ◌∷◌, inl, inr, Option, Some, None, Ok, Bool, true, ap, ◌∙◌, subst, arith}
 use Rattle.mp_tokens.specs.Tokens.{Tok, tokens}
 use Rattle.mp_tokens.specs.declared.terminal.Terminal.TheVariants as t
 use Rattle.mp_statements.specs.declared.kind.NameKind.{NameKind}
 use Rattle.mp_syntax.specs.Syntax.{Named, Expr}
-use Rattle.mp_statements.specs.Statements.{Item, Statement, Declares, Assigns, Model}
-use Rattle.mp_format.specs.Format.{Every, Format, opt, Reads, Made}
+use Rattle.mp_statements.specs.Statements.{Item, Statement, Declares}
+use Rattle.mp_format.specs.Format.{Every, opt, Reads, Made}
 use Rattle.mp_format.specs.Notation.{wide, ◌▸◌}
 use Rattle.mp_format.specs.Spelling.{FitsAll, FitsOpt}
 use Rattle.mp_expressions.specs.InForm.{Flat, Deep, InForm}
 use Rattle.mp_expressions.specs.Expressions.{sum, atom, flat_atom}
-use Rattle.mp_expressions.specs.Productions.{Whole, expr, name, spaced_name}
-use Rattle.mp_grammar.specs.Productions.{further_name, names, declared, declares, assigns, item, model, statement, statements}
+use Rattle.mp_expressions.specs.Productions.{expr, name}
+use Rattle.mp_grammar.specs.Productions.{further_name, declared, declares, assigns, item, model, statement, statements}
 use Rattle.mp_grammar.specs.Levels.{expression, flat, deeper}
 use Rattle.mp_grammar.specs.Statements.{IsExpression, IsNamed, IsItem, IsStatement}
 use Rattle.mp_format.proofs.Whole.{whole-made}

@@ -1,14 +1,11 @@
 -- Each statement in form has a tree, with its value but for places.
-use Rattle.std.proofs.Common.{◌≡◌, ℕ, ◌<◌, List, [], ◌∷◌, ◌++◌, length, map, ◌⊎◌, inl, inr, Option, Some, None, option_map, true, Ok, refl, sym, ap, ◌∙◌, subst, arith}
+use Rattle.std.proofs.Common.{◌<◌, List, [], ◌∷◌, length, map, Option, Some, None, refl, ap, arith}
 use Rattle.mp_statements.specs.declared.kind.NameKind.{NameKind}
 use Rattle.mp_statements.specs.declared.kind.NameKind.TheVariants as kind
 use Rattle.mp_syntax.specs.Syntax.{Named, Expr}
 use Rattle.mp_statements.specs.Statements.{Item, Statement, Declares, Assigns, Model}
 use Rattle.mp_expressions.specs.Script.{bare_name, bare}
-use Rattle.mp_format.specs.Format.{Format, many}
-use Rattle.mp_format.specs.Spelling.{Tree, value, pieces, Fits, FitsAll, FitsOpt}
-use Rattle.mp_expressions.specs.InForm.{InForm}
-use Rattle.mp_expressions.specs.Productions.{Whole}
+use Rattle.mp_format.specs.Spelling.{value, Fits, FitsAll, FitsOpt}
 use Rattle.mp_grammar.specs.Productions.{names, further_name, declares, assigns, item, model, statement, statements}
 use Rattle.mp_grammar.specs.Levels.{expression}
 use Rattle.mp_format.proofs.Stands.{Stands, list_stands}
@@ -39,7 +36,7 @@ assigns_stand : (n : Named) (x : Expr) → IsNamed n → IsExpression x → Stan
 unfolding value Fits assigns assigns_tree
 assigns_stand n x is form = record { value = refl; fits = ((is, tt), (in_form 500 x form, tt)) }
 
-item_stands : (x : Item) → IsItem x → Stands (item (expression 500)) (item_tree (expression 500) x) (bare_item x)
+pub item_stands : (x : Item) → IsItem x → Stands (item (expression 500)) (item_tree (expression 500) x) (bare_item x)
 unfolding value Fits item item_tree
 item_stands x is = by x.right is.1
   where

@@ -1,9 +1,8 @@
 -- Expressions with so many "(" open at once.
-use Rattle.std.specs.Prelude.{◌≡◌, ℕ, zero, suc, true, false}
+use Rattle.std.specs.Prelude.{ℕ, zero, suc}
 use Rattle.std.proofs.Common.{refl}
-use Rattle.mp_tokens.specs.Terminals.{terminal_of, word_of}
 use Rattle.mp_syntax.specs.Syntax.{Expr}
-use Rattle.mp_format.specs.Format.{Format, told, empty, first, goes_on, covers}
+use Rattle.mp_format.specs.Format.{Format, empty, first, goes_on}
 use Rattle.mp_expressions.specs.Productions.{Whole, expr_first, expr_more}
 use Rattle.mp_expressions.specs.Expressions.{shift, fenced, closed, pair, flat_atom, atom, factor, times, product, plus, sum}
 use Rattle.mp_expressions.specs.Script.{expr_script}

@@ -1,11 +1,11 @@
 -- Statements as formats.
-use Rattle.std.specs.Prelude.{List, ◌∷◌, Option}
+use Rattle.std.specs.Prelude.{List, ◌∷◌}
 use Rattle.mp_tokens.specs.declared.terminal.Terminal.TheVariants as t
 use Rattle.mp_syntax.specs.Syntax.{Named}
 use Rattle.mp_statements.specs.declared.kind.NameKind.{NameKind}
 use Rattle.mp_statements.specs.declared.kind.NameKind.TheVariants as kind
 use Rattle.mp_statements.specs.Statements.{Item, Statement, Declares, Assigns, Model}
-use Rattle.mp_format.specs.Format.{Format, both, opt, many, via}
+use Rattle.mp_format.specs.Format.{Format, opt, many}
 use Rattle.mp_format.specs.Notation.{of, wide, line, ◌⊗◌, ◌▸◌, ◌◂◌, ◌∣◌, ◌⇒◌}
 use Rattle.mp_expressions.specs.Productions.{Whole, expr, name, spaced_name}
 

@@ -1,5 +1,5 @@
 -- Statements that a text may write, and how each is written as a tree.
-use Rattle.std.specs.Prelude.{◌≡◌, ℕ, ◌<◌, List, [], ◌∷◌, ◌++◌, length, map, ◌⊎◌, Option, Some, None, option_map}
+use Rattle.std.specs.Prelude.{◌<◌, List, [], ◌∷◌, length, map, None, option_map}
 use mathlib.Core.Logic.{inl, inr}
 use Rattle.mp_statements.specs.declared.kind.NameKind.{NameKind}
 use Rattle.mp_statements.specs.declared.kind.NameKind.TheVariants as kind

@@ -1,11 +1,11 @@
 -- Tags of an equation, as a format, with what a text may write and how (ready for the statements that take them).
-use Rattle.std.specs.Prelude.{ℕ, List, ◌<◌, [], ◌∷◌, length, map}
+use Rattle.std.specs.Prelude.{ℕ, List, [], ◌∷◌}
 use Rattle.mp_tokens.specs.declared.terminal.Terminal.TheVariants as t
 use Rattle.mp_syntax.specs.Syntax.{Named}
 use Rattle.mp_format.specs.Pieces.{IsText}
-use Rattle.mp_format.specs.Format.{Format, both, many, via}
+use Rattle.mp_format.specs.Format.{Format, many}
 use Rattle.mp_format.specs.Notation.{of, ◌⊗◌, ◌▸◌, ◌◂◌, ◌⇒◌}
-use Rattle.mp_format.specs.Spelling.{Tree, FitsAll, some_tree}
+use Rattle.mp_format.specs.Spelling.{Tree, some_tree}
 use Rattle.mp_expressions.specs.Script.{bare_name}
 use Rattle.mp_expressions.specs.Productions.{name}
 use Rattle.mp_grammar.specs.Statements.{IsNamed}
