@@ -2,12 +2,10 @@
 use Rattle.std.specs.Prelude.{◌≡◌, ℕ, pos, List, take, Option, Some, None, Result, Ok, Err}
 use Rattle.mp_base.specs.declared.refusal.Refusal.{Refusal}
 use Rattle.mp_base.specs.declared.refusal.Refusal.TheVariants as r
-use Rattle.mp_base.specs.declared.data.DataRefusal.{DataRefusal}
 use Rattle.mp_base.specs.declared.span.Ratio.{Ratio}
 use Rattle.mp_base.specs.declared.kinds.DeclKind.TheVariants as k
 use Rattle.mp_base.specs.declared.kinds.DataKind.TheVariants as d
-use Rattle.mp_rational.specs.Fraction.{Fraction}
-use Rattle.mp_rational.specs.Lowest.{numerator, denominator}
+use Rattle.mp_fold.specs.Reported.{ratio_told}
 use Rattle.mp_tokens.specs.Tokens.{Tok}
 use Rattle.mp_statements.specs.Statements.{Statement}
 use Rattle.mp_tokens.specs.Literals.{far_literal}
@@ -18,10 +16,6 @@ use Rattle.mp_values.specs.Values.{values_given, all_exponents}
 use Rattle.mp_declared.specs.Declared.{Fault, declared_fault}
 use Rattle.mp_decl.specs.declared.fault.DeclFault.{DeclFault}
 use Rattle.mp_decl.specs.declared.fault.DeclFault.TheVariants as f
-
--- a fraction as refusals report it
-abbrev pub ratio_told : Fraction → Ratio
-ratio_told x = record { n = numerator x; d = pos (denominator x) }
 
 abbrev pub whole_told : ℕ → Ratio
 whole_told n = record { n = pos n; d = pos 1 }

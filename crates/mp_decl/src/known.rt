@@ -12,7 +12,7 @@ ghost use Rattle.mp_decl.specs.Walks.{Walks};
 use crate::fault::DeclFault;
 use crate::search::{Read, Reader};
 use crate::shifts::periods;
-use mp_base::{DeclKind, Label};
+use mp_base::{DeclKind, Label, NoMemory};
 use mp_file::{Named, Shift};
 use mp_names::Names;
 use mp_statements::NameKind;
@@ -40,7 +40,8 @@ impl<'t> Known<'t> {
     pub(crate) fn declare(&mut self, kind: NameKind, name: &Named<'t>) -> Result<(), DeclFault>
         ensures { Walks result self.old self.new (Declared kind (named_of name.now) ∷ []) }
     {
-        if self.names.add(kind, name.name)? {
+        let added = self.names.add(kind, name.name).map_err(NoMemory::from)?;
+        if added {
             return Ok(());
         }
         Err(wrong(DeclKind::Twice, name))

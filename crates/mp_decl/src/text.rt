@@ -16,7 +16,7 @@ use crate::known::wrong;
 use crate::parts::items_of;
 use mp_base::{DataKind, DataRefusal, DeclKind, Reduced};
 use mp_file::{File, Named, Statement};
-use mp_fold::{FoldFault, assign_values, exponents};
+use mp_fold::{FoldFault, assign_values, exponents, lowest_terms};
 use mp_lex::{Token, Tokens};
 use mp_literal::decimal;
 use mp_names::{Names, Table};
@@ -136,17 +136,13 @@ fn told(fault: FoldFault, end: u32) -> DeclFault
     ensures told { Tells result (refusal end (stuck_of fault.entry)) }
 {
     match fault {
-        FoldFault::Unvalued { name } => wrong(DeclKind::NoValue, &Named { name, at: end }),
-        FoldFault::Refused {
-            kind,
-            at,
-            first,
-            second,
-        } => DeclFault::Data(DataRefusal {
-            kind,
-            at,
-            first: Reduced::of(first.parts()),
-            second: Reduced::of(second.parts()),
-        }),
+        FoldFault::Unvalued { name } => {
+            let name = name.bytes();
+            wrong(DeclKind::NoValue, &Named { name, at: end })
+        }
+        FoldFault::Refused(refused) => {
+            lowest_terms(&refused);
+            DeclFault::Data(refused)
+        }
     }
 }

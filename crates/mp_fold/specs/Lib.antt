@@ -1,3 +1,5 @@
 pub mod Assigned
+pub mod Collected
 pub mod Near
+pub mod Reported
 pub mod Shown

@@ -1,13 +1,13 @@
 -- What the code gives, as the definitions see it.
 use Rattle.std.specs.Prelude.{Result, Ok, Err}
-use Rattle.mp_frac.specs.Value.{value_of}
 use Rattle.mp_values.specs.Limits.{Stuck, Unvalued, Refused, Folded, ◌>>=◌}
 use Rattle.mp_fold.specs.declared.fault.FoldFault.{FoldFault}
 use Rattle.mp_fold.specs.declared.fault.FoldFault.TheVariants as f
+use Rattle.mp_fold.specs.Reported.{fraction_of}
 
 abbrev pub stuck_of : FoldFault → Stuck
-stuck_of (f.Unvalued name) = Unvalued name.now
-stuck_of (f.Refused kind at first second) = Refused kind at (value_of first) (value_of second)
+stuck_of (f.Unvalued name) = Unvalued name
+stuck_of (f.Refused refused) = Refused refused.kind refused.at (fraction_of refused.first) (fraction_of refused.second)
 
 -- what was given, seen by view, or why nothing was
 abbrev pub shown : {X Y : Type 0} → (X → Y) → Result X FoldFault → Folded Y

@@ -8,8 +8,8 @@ ghost use Rattle.mp_values.specs.Values.{decimal_value};
 ghost use Rattle.mp_values.specs.Table.{value_in};
 ghost use Rattle.mp_fold.specs.Shown.{shown, and_then};
 
-use crate::fault::FoldFault;
-use mp_base::DataKind;
+use crate::fault::{FoldFault, Name};
+use mp_base::{DataKind, DataRefusal, Reduced};
 use mp_file::Named;
 use mp_frac::Frac;
 use mp_literal::{Decimal, decimal};
@@ -21,12 +21,12 @@ pub(crate) fn literal_value<'t>(literal: &[u8], at: u32) -> Result<Frac, FoldFau
 {
     match decimal(literal) {
         Some(number) => Ok(fraction(number)),
-        None => Err(FoldFault::Refused {
+        None => Err(FoldFault::Refused(DataRefusal {
             kind: DataKind::Literal,
             at,
-            first: Frac::ratio(0, 1),
-            second: Frac::ratio(37, 1),
-        }),
+            first: Reduced::whole(0),
+            second: Reduced::whole(37),
+        })),
     }
 }
 
@@ -45,6 +45,8 @@ pub(crate) fn known_value<'t>(table: &Table<'t>, name: &Named<'t>) -> Result<Fra
 {
     match table.get(name.name) {
         Some(value) => Ok(value),
-        None => Err(FoldFault::Unvalued { name: name.name }),
+        None => Err(FoldFault::Unvalued {
+            name: Name::of(name.name),
+        }),
     }
 }

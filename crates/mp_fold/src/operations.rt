@@ -1,5 +1,6 @@
 // Operations on fractions, with their limits.
-ghost use Rattle.std.specs.Prelude.{◌≡◌, IfOk};
+ghost use Rattle.std.specs.Prelude.{◌≡◌, ◌≤◌, unsigned_abs, IfOk};
+ghost use Rattle.std.specs.Option.{ForSome};
 ghost use Rattle.mp_rational.specs.Fraction.{less, whole};
 ghost use Rattle.mp_frac.specs.Value.{value_of, outcome_of};
 ghost use Rattle.mp_values.specs.Limits.{limited, told};
@@ -7,8 +8,8 @@ ghost use Rattle.mp_values.specs.Values.{with_sign, with_sign_if, chosen, expone
 ghost use Rattle.mp_fold.specs.Near.{near_of};
 ghost use Rattle.mp_fold.specs.Shown.{shown, and_then};
 
-use crate::fault::FoldFault;
-use mp_base::{DataKind, Ratio};
+use crate::fault::{FoldFault, reduced};
+use mp_base::{DataKind, DataRefusal, Ratio, Reduced};
 use mp_frac::{Frac, FracFault};
 use mp_syntax::{Function, Operator, Sign};
 use std::cmp::Ordering;
@@ -25,12 +26,12 @@ fn told<'t>(at: u32, x: Frac, y: Frac, outcome: Result<Frac, FracFault>) -> Valu
         Err(FracFault::Overflow) => DataKind::Overflow,
         Err(FracFault::ZeroDivisor) => DataKind::ZeroDivisor,
     };
-    Err(FoldFault::Refused {
+    Err(FoldFault::Refused(DataRefusal {
         kind,
         at,
-        first: x,
-        second: y,
-    })
+        first: reduced(x),
+        second: reduced(y),
+    }))
 }
 
 // What joins two operands at this place.
@@ -130,7 +131,8 @@ pub(crate) fn near_exponent<'t>(
     sign: Option<Sign>,
     y: Value<'t>,
 ) -> Result<i8, FoldFault<'t>>
-    ensures { shown (λ k. k) result ≡ and_then (shown value_of y.entry) (λ b. exponent_at limited at sign b) }
+    ensures given { shown (λ k. k) result ≡ and_then (shown value_of y.entry) (λ b. exponent_at limited at sign b) }
+    ensures near { IfOk result (λ k. unsigned_abs k ≤ 16) }
 {
     match y {
         Ok(b) => near_whole(at, with_sign_if(sign, b)),
@@ -142,22 +144,24 @@ pub(crate) fn near_exponent<'t>(
 fn near_whole<'t>(at: u32, exponent: Frac) -> Result<i8, FoldFault<'t>>
     ensures given { shown (λ k. k) result ≡ limited.exponent at (value_of exponent) }
     ensures whole { IfOk result (λ k. value_of exponent ≡ whole k) }
+    ensures near { IfOk result (λ k. unsigned_abs k ≤ 16) }
 {
     let parts = exponent.parts();
     match near(&parts) {
         Some(k) => Ok(k),
-        None => Err(FoldFault::Refused {
+        None => Err(FoldFault::Refused(DataRefusal {
             kind: DataKind::Exponent,
             at,
-            first: exponent,
-            second: Frac::ratio(16, 1),
-        }),
+            first: reduced(exponent),
+            second: Reduced::whole(16),
+        })),
     }
 }
 
 // The whole number that these parts in lowest terms are, from -16 to 16.
 fn near(parts: &Ratio) -> Option<i8>
-    ensures { result ≡ near_of parts.now.n parts.now.d }
+    ensures given { result ≡ near_of parts.now.n parts.now.d }
+    ensures near { ForSome result (λ k. unsigned_abs k ≤ 16) }
 {
     if parts.d == 1 && -16 <= parts.n && parts.n <= 16 {
         Some(parts.n as i8)

@@ -1,13 +1,13 @@
 // The parts of a model.
 
-use mp_expr::Tree;
 use mp_frac::Frac;
+use mp_graph::{Graph, NodeId};
 
-/// The two sides of an equation.
-#[derive(Drop)]
+/// The two sides of an equation, nodes of a graph.
+#[derive(Clone, Copy)]
 pub struct Sides {
-    pub left: Tree,
-    pub right: Tree,
+    pub left: NodeId,
+    pub right: NodeId,
 }
 
 /// A parameter with its value.
@@ -15,4 +15,12 @@ pub struct Sides {
 pub struct Parameter<'t> {
     pub name: &'t [u8],
     pub value: Frac,
+}
+
+/// The two sides of an equation, lent with the graph in which they stand.
+#[derive(Clone, Copy)]
+pub struct Lent<'g, 't> {
+    pub graph: &'g Graph<'t>,
+    pub left: NodeId,
+    pub right: NodeId,
 }

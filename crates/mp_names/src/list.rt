@@ -1,8 +1,10 @@
 // Names of one kind.
-ghost use Rattle.std.specs.Prelude.{◌≡◌, ◌<◌, ◌+◌, ◌^◌, [], ◌∷◌, ◌++◌, map, not, length, slice_index_or, position, option_map, if◌then◌else◌, IfOk, OnErr};
+ghost use Rattle.std.specs.Prelude.{◌≡◌, ◌<◌, ◌+◌, ◌^◌, [], ◌∷◌, ◌++◌, map, not, length, slice_index_or, position, option_map, if◌then◌else◌, IsTrue, ◌↔◌, Err, IfOk, OnErr};
 ghost use Rattle.std.specs.List.{list_any, IsDistinct};
 ghost use Rattle.std.specs.Str.{bytes_eq};
+ghost use Rattle.mp_names.specs.Full.{IsFull};
 
+use crate::fault::NameFault;
 use indexmap::IndexSet;
 use mp_base::NoMemory;
 use std::alloc::Global;
@@ -38,18 +40,37 @@ impl<'t> NameList<'t> {
     }
 
     /// Adds the name as the last one, unless it is there, and says whether it did. There is room for 2^32 - 2 names.
-    pub fn add(&mut self, name: &'t [u8]) -> Result<bool, NoMemory>
+    pub fn add(&mut self, name: &'t [u8]) -> Result<bool, NameFault>
         ensures added { IfOk result (λ r. r ≡ not (list_any (bytes_eq name.now) self.old)) }
         ensures names { IfOk result (λ r. self.new ≡ (if r then self.old ++ name.now ∷ [] else self.old)) }
+        ensures full { (result ≡ Err NameFault.Full) ↔ IsFull self.old name.now }
         ensures err { OnErr result (self.new ≡ self.old) }
     {
-        if self.set.len() >= MOST {
-            return Err(NoMemory);
+        if self.is_full(name) {
+            return Err(NameFault::Full);
         }
         let Ok(added) = self.set.insert(name) else {
-            return Err(NoMemory);
+            return Err(NameFault::NoMemory);
         };
         Ok(added)
+    }
+
+    /// The same names.
+    pub fn copy(&self) -> Result<NameList<'t>, NoMemory>
+        ensures { IfOk result (λ names. names ≡ self.now) }
+    {
+        match self.set.clone() {
+            Ok(set) => Ok(NameList { set }),
+            Err(_) => Err(NoMemory),
+        }
+    }
+
+    // Whether the name is new and there is no room for it.
+    fn is_full(&self, name: &[u8]) -> bool
+        ensures { IsTrue result ↔ IsFull self.now name.now }
+    {
+        let _ = &self.set;
+        self.set.len() >= MOST && !self.has(name)
     }
 
     /// Whether the name is there.

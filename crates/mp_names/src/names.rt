@@ -1,10 +1,14 @@
 // Names of three kinds.
-ghost use Rattle.std.specs.Prelude.{◌≡◌, ◌<◌, ◌+◌, ◌^◌, ℕ, ℤ, List, [], not, true, None, is_some, length, slice_index_or, option_map, if◌then◌else◌, IfOk, OnOk, OnErr};
+ghost use Rattle.std.specs.Prelude.{◌≡◌, ◌<◌, ◌+◌, ◌^◌, ℕ, ℤ, List, not, true, None, is_some, length, option_map, if◌then◌else◌, ◌↔◌, Err, IfOk, OnOk, OnErr};
+ghost use Rattle.std.specs.Option.{ForSome};
 ghost use Rattle.mp_values.specs.Names as v;
 ghost use Rattle.mp_values.specs.Names.{named_term};
+ghost use Rattle.mp_names.specs.Full.{IsFullOf};
 ghost use Rattle.mp_names.specs.Named.{no_names, of_kind, kind_in, with_name};
 ghost use Rattle.mp_names.specs.Numbers.{id_of, term_by};
+ghost use Rattle.mp_names.specs.Naming.{IsNamed, name_of};
 
+use crate::fault::NameFault;
 use crate::list::NameList;
 use mp_base::NoMemory;
 use mp_statements::NameKind;
@@ -48,9 +52,10 @@ impl<'t> Names<'t> {
     }
 
     /// Adds the name as the last one of its kind, unless it is there under any kind, and says whether it did.
-    pub fn add(&mut self, kind: NameKind, name: &'t [u8]) -> Result<bool, NoMemory>
+    pub fn add(&mut self, kind: NameKind, name: &'t [u8]) -> Result<bool, NameFault>
         ensures added { IfOk result (λ r. r ≡ not (is_some (kind_in self.old name.now))) }
         ensures names { IfOk result (λ r. self.new ≡ (if r then with_name kind name.now self.old else self.old)) }
+        ensures full { (result ≡ Err NameFault.Full) ↔ IsFullOf kind self.old name.now }
         ensures err { OnErr result (self.new ≡ self.old) }
     {
         if self.kind(name).is_some() {
@@ -60,10 +65,11 @@ impl<'t> Names<'t> {
     }
 
     // Adds a name that is there under no kind.
-    fn add_new(&mut self, kind: NameKind, name: &'t [u8]) -> Result<bool, NoMemory>
+    fn add_new(&mut self, kind: NameKind, name: &'t [u8]) -> Result<bool, NameFault>
         requires { kind_in self.old name.now ≡ None }
         ensures added { IfOk result (λ r. r ≡ true) }
         ensures names { OnOk result (self.new ≡ with_name kind name.now self.old) }
+        ensures full { (result ≡ Err NameFault.Full) ↔ IsFullOf kind self.old name.now }
         ensures err { OnErr result (self.new ≡ self.old) }
     {
         match kind {
@@ -91,7 +97,8 @@ impl<'t> Names<'t> {
 
     /// The kind and number of the name, if it is there.
     pub fn find(&self, name: &[u8]) -> Option<NameId>
-        ensures { result ≡ id_of self.now name.now }
+        ensures id { result ≡ id_of self.now name.now }
+        ensures named { ForSome result (IsNamed self.now) }
     {
         if let Some(number) = self.endogenous.number(name) {
             return Some(NameId::Endo(number));
@@ -122,12 +129,27 @@ impl<'t> Names<'t> {
         self.of_kind(kind).count()
     }
 
-    /// The name of this kind at a place, from 0.
-    pub fn name(&self, kind: NameKind, place: u32) -> &'t [u8]
-        requires { place < length (of_kind kind self.now) }
-        ensures { result.now ≡ slice_index_or (of_kind kind self.now) place [] }
+    /// The name of this number.
+    pub fn name(&self, id: NameId) -> &'t [u8]
+        requires { IsNamed self.now id }
+        ensures { result.now ≡ name_of self.now id }
     {
-        self.of_kind(kind).name(place)
+        match id {
+            NameId::Endo(number) => self.endogenous.name(number - 1),
+            NameId::Exo(number) => self.exogenous.name(number - 1),
+            NameId::Param(number) => self.parameters.name(number - 1),
+        }
+    }
+
+    /// The same names.
+    pub fn copy(&self) -> Result<Names<'t>, NoMemory>
+        ensures { IfOk result (λ names. names ≡ self.now) }
+    {
+        Ok(Names {
+            endogenous: self.endogenous.copy()?,
+            exogenous: self.exogenous.copy()?,
+            parameters: self.parameters.copy()?,
+        })
     }
 }
 

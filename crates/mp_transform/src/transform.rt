@@ -11,8 +11,7 @@ ghost use Rattle.mp_values.specs.Values.{values_given};
 ghost use Rattle.mp_values.specs.ModelOf.{model_given};
 ghost use Rattle.mp_model_data.specs.Shown.{model_data};
 ghost use Rattle.mp_canonical.specs.Files.{canonical_text};
-ghost use Rattle.mp_frac.specs.Value.{value_of};
-ghost use Rattle.mp_decl.specs.Given.{ratio_told, declared_given};
+ghost use Rattle.mp_decl.specs.Given.{declared_given};
 ghost use Rattle.mp_transform.specs.Steps.{Says, TextShows};
 ghost use Rattle.mp_transform.specs.Text.{shift_step, deep_step, model_step, limited, tested, text_gives};
 ghost use Rattle.mp_transform.specs.Canonical.{IsCanonical};
@@ -22,7 +21,7 @@ use crate::reading::{lexed, parsed};
 use mp_base::{Bytes, DataKind, DataRefusal, DeclKind, Label, Reduced, Refusal};
 use mp_decl::{DeclFault, Declared};
 use mp_file::File;
-use mp_frac::Frac;
+use mp_fold::lowest_terms;
 use mp_lex::Tokens;
 use mp_model_data::Model;
 use mp_trees::ModelFault;
@@ -168,31 +167,15 @@ fn model<'t>(
         Ok(model) => Ok(model),
         Err(ModelFault::Unvalued { name }) => Err(Refusal::Declared {
             kind: DeclKind::NoValue,
-            name: Label::of(name),
+            name: Label::of(name.bytes()),
             at: end,
         }),
-        Err(
-            ModelFault::Refused {
-                kind,
-                at,
-                first,
-                second,
-            },
-        ) => Err(refused(kind, at, first, second)),
+        Err(ModelFault::Refused(refused)) => {
+            lowest_terms(&refused);
+            Err(Refusal::Data(refused))
+        }
         Err(ModelFault::NoMemory) => Err(Refusal::NoMemory),
     }
-}
-
-// A number is refused at this place, with two that say why.
-fn refused(kind: DataKind, at: u32, first: Frac, second: Frac) -> Refusal
-    ensures says { result ≡ Refusal.Data (record { kind = kind; at = at; first = ratio_told (value_of first); second = ratio_told (value_of second) }) }
-{
-    Refusal::Data(DataRefusal {
-        kind,
-        at,
-        first: Reduced::of(first.parts()),
-        second: Reduced::of(second.parts()),
-    })
 }
 
 // The canonical text of the model.

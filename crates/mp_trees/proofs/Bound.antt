@@ -1,6 +1,6 @@
 -- Going on with what there is.
 use Rattle.std.proofs.Common.{◌≡◌, List, [], ◌∷◌, ◌++◌, append-nil, append_assoc, Ok, Err, refl, sym, ap, ◌∙◌}
-use Rattle.mp_frac.specs.Value.{value_of}
+use Rattle.mp_fold.specs.Reported.{fraction_of}
 use Rattle.mp_values.specs.Limits.{Folded, Stuck, Unvalued, Refused, ◌>>=◌}
 use Rattle.mp_values.specs.ModelOf.{each}
 use Rattle.mp_trees.specs.declared.fault.ModelFault.{ModelFault}
@@ -26,14 +26,14 @@ bind_same (Err e) f g h = refl
 
 -- a part that fails makes the whole fail, for the same reason
 pub Fails-whole : {A B : Type 0} (e : ModelFault) (part : Folded A) (whole : Folded B) → ((s : Stuck) → part ≡ Err s → whole ≡ Err s) → Fails e part → Fails e whole
-Fails-whole (fault.Unvalued name) part whole h fails = h (Unvalued name.now) fails
-Fails-whole (fault.Refused kind at first second) part whole h fails = h (Refused kind at (value_of first) (value_of second)) fails
+Fails-whole (fault.Unvalued name) part whole h fails = h (Unvalued name) fails
+Fails-whole (fault.Refused refused) part whole h fails = h (Refused refused.kind refused.at (fraction_of refused.first) (fraction_of refused.second)) fails
 Fails-whole fault.NoMemory part whole h fails = tt
 
 -- a value that is missing
 pub Fails-fault : {A : Type 0} (f : FoldFault) (given : Folded A) → given ≡ Err (stuck_of f) → Fails (fault_of f) given
 Fails-fault (f.Unvalued name) given is = is
-Fails-fault (f.Refused kind at first second) given is = is
+Fails-fault (f.Refused refused) given is = is
 
 pub Fails-bind : {A B : Type 0} (e : ModelFault) (part : Folded A) (next : A → Folded B) → Fails e part → Fails e (part >>= next)
 Fails-bind e part next fails = Fails-whole e part (part >>= next) (λ s is. ap (λ r. r >>= next) is) fails

@@ -6,4 +6,4 @@ use Rattle.mp_trees.specs.declared.fault.ModelFault.TheVariants as fault
 
 abbrev pub fault_of : FoldFault → ModelFault
 fault_of (f.Unvalued name) = fault.Unvalued name
-fault_of (f.Refused kind at first second) = fault.Refused kind at first second
+fault_of (f.Refused refused) = fault.Refused refused

@@ -2,15 +2,15 @@
 use Rattle.std.specs.Prelude.{◌≡◌, ℕ, pos, ◌^◌, nat_le, if◌then◌else◌, Option, Some, None, Result, Ok, Err}
 use Rattle.mp_base.specs.declared.kinds.DataKind.TheVariants as d
 use Rattle.mp_rational.specs.Fraction.{whole}
-use Rattle.mp_frac.specs.Value.{value_of}
+use Rattle.mp_fold.specs.Reported.{fraction_of}
 use Rattle.mp_values.specs.Limits.{Folded, Unvalued, Refused}
 use Rattle.mp_trees.specs.declared.fault.ModelFault.{ModelFault}
 use Rattle.mp_trees.specs.declared.fault.ModelFault.TheVariants as fault
 
 -- the same name has no value, the same number is refused, or memory ran out
 abbrev pub Fails : {Y : Type 0} → ModelFault → Folded Y → Type 0
-Fails (fault.Unvalued name) given = given ≡ Err (Unvalued name.now)
-Fails (fault.Refused kind at first second) given = given ≡ Err (Refused kind at (value_of first) (value_of second))
+Fails (fault.Unvalued name) given = given ≡ Err (Unvalued name)
+Fails (fault.Refused refused) given = given ≡ Err (Refused refused.kind refused.at (fraction_of refused.first) (fraction_of refused.second))
 Fails fault.NoMemory given = Unit {0}
 
 -- what was returned, seen by view, is what is given, unless memory ran out

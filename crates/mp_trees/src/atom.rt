@@ -9,9 +9,10 @@ ghost use Rattle.mp_trees.specs.Gives.{Gives, IsFarLiteral, same, up_to_limit};
 ghost use Rattle.mp_trees.specs.Parts.{number_given, name_given};
 
 use crate::fault::{ModelFault, whole};
-use mp_base::DataKind;
+use mp_base::{DataKind, DataRefusal};
 use mp_expr::{Tree, VarId};
 use mp_file::{Named, Shift};
+use mp_fold::Name;
 use mp_literal::decimal;
 use mp_names::{NameId, Names};
 use mp_syntax::Sign;
@@ -39,12 +40,12 @@ pub(crate) fn number_tree<'t>(literal: &[u8], at: u32) -> Result<Tree, ModelFaul
 fn far_literal<'t>(at: u32) -> ModelFault<'t>
     ensures { IsFarLiteral at result }
 {
-    ModelFault::Refused {
+    ModelFault::Refused(DataRefusal {
         kind: DataKind::Literal,
         at,
         first: whole(0),
         second: whole(37),
-    }
+    })
 }
 
 // The variable of a name, shifted, or its parameter.
@@ -58,7 +59,9 @@ pub(crate) fn name_tree<'t>(
     let shift = periods(name.at, shift)?;
     match found_tree(name.name, shift, names) {
         Some(tree) => Ok(tree),
-        None => Err(ModelFault::Unvalued { name: name.name }),
+        None => Err(ModelFault::Unvalued {
+            name: Name::of(name.name),
+        }),
     }
 }
 
@@ -89,12 +92,12 @@ fn periods<'t>(at: u32, shift: Option<Shift<'t>>) -> Result<i16, ModelFault<'t>>
     };
     match number(shift.digits) {
         None => Err(far_literal(at)),
-        Some(count) if count > FARTHEST => Err(ModelFault::Refused {
+        Some(count) if count > FARTHEST => Err(ModelFault::Refused(DataRefusal {
             kind: DataKind::ShiftFar,
             at,
             first: whole(count),
             second: whole(FARTHEST),
-        }),
+        })),
         Some(count) => Ok(along(shift.sign, count as i16)),
     }
 }

@@ -2,11 +2,10 @@
 ghost use Rattle.std.specs.Prelude.{◌≡◌, ◌≤◌, pos};
 ghost use Rattle.mp_rational.specs.Fraction.{whole};
 ghost use Rattle.mp_frac.specs.Limit.{limit};
-ghost use Rattle.mp_frac.specs.Value.{value_of};
+ghost use Rattle.mp_fold.specs.Reported.{fraction_of};
 
-use mp_base::{DataKind, NoMemory};
-use mp_fold::FoldFault;
-use mp_frac::Frac;
+use mp_base::{DataRefusal, NoMemory, Reduced};
+use mp_fold::{FoldFault, Name};
 use thiserror::Error;
 
 /// Why a file has no model: a name has no value; or a number is refused, with its place and two numbers that say why; or
@@ -14,16 +13,9 @@ use thiserror::Error;
 #[derive(Debug, Drop, Error)]
 pub enum ModelFault<'t> {
     #[error("a name has no value")]
-    Unvalued {
-        name: &'t [u8],
-    },
-    #[error("the number at byte {at} is refused")]
-    Refused {
-        kind: DataKind,
-        at: u32,
-        first: Frac,
-        second: Frac,
-    },
+    Unvalued { name: Name<'t> },
+    #[error("a number is refused")]
+    Refused(DataRefusal),
     #[error("there was no memory")]
     NoMemory,
 }
@@ -48,25 +40,15 @@ impl<'t> From<FoldFault<'t>> for ModelFault<'t> {
     fn from(fault: FoldFault<'t>) -> Self {
         match fault {
             FoldFault::Unvalued { name } => ModelFault::Unvalued { name },
-            FoldFault::Refused {
-                kind,
-                at,
-                first,
-                second,
-            } => ModelFault::Refused {
-                kind,
-                at,
-                first,
-                second,
-            },
+            FoldFault::Refused(refused) => ModelFault::Refused(refused),
         }
     }
 }
 
-// A whole number as a fraction.
-pub(crate) fn whole(n: u128) -> Frac
+// A whole number as refusals report it.
+pub(crate) fn whole(n: u128) -> Reduced
     requires { n ≤ limit }
-    ensures { value_of result ≡ whole (pos n) }
+    ensures { fraction_of result ≡ whole (pos n) }
 {
-    Frac::ratio(n, 1)
+    Reduced::whole(n as i128)
 }

@@ -12,6 +12,7 @@ use crate::equation::sides_of_file;
 use crate::fault::ModelFault;
 use mp_base::NoMemory;
 use mp_file::File;
+use mp_fold::Name;
 use mp_model_data::{Model, Parameter, Sides};
 use mp_names::{Entry, Names, Table};
 use mp_statements::NameKind;
@@ -78,7 +79,9 @@ fn parameter<'t>(entry: Entry<'t>) -> Result<Parameter<'t>, ModelFault<'t>>
             name: entry.name,
             value,
         }),
-        None => Err(ModelFault::Unvalued { name: entry.name }),
+        None => Err(ModelFault::Unvalued {
+            name: Name::of(entry.name),
+        }),
     }
 }
 

@@ -1,4 +1,6 @@
 pub mod Chained
+pub mod Exponents
+pub mod From
 pub mod Limits
 pub mod ModelOf
 pub mod Names

@@ -7,7 +7,7 @@ use Rattle.mp_syntax.specs.declared.operator.Sign.TheVariants as sign
 use Rattle.mp_syntax.specs.declared.operator.Function.{Function}
 use Rattle.mp_syntax.specs.declared.operator.Function.TheVariants as function
 use Rattle.mp_syntax.specs.Syntax.{Expr, Number, Variable, Signed, Binary, Power, Paren, Call}
-use Rattle.mp_statements.specs.Statements.{Item, Statement, Declares, Assigns, Model}
+use Rattle.mp_statements.specs.Statements.{Statement, Declares, Assigns, Model}
 use Rattle.mp_values.specs.Table.{Table, unset, value_in, with_value}
 use Rattle.mp_values.specs.Names.{names_of}
 use Rattle.mp_values.specs.Limits.{Folded, ◌>>=◌, known, Limits, limited}
@@ -67,27 +67,3 @@ assigned t file = assigned_by limited t file
 
 abbrev pub values_given : List Statement → Folded Table
 values_given file = values_by limited file
-
--- whether each exponent has a value that is near; the first one, in text order, that has not is refused
-abbrev pub exponents_given : Table → Expr → Folded (Unit {0})
-exponents_given t (Number literal at) = Ok tt
-exponents_given t (Variable name shift) = Ok tt
-exponents_given t (Signed s a) = exponents_given t a
-exponents_given t (Binary o a at b) = exponents_given t a >>= λ _. exponents_given t b
-exponents_given t (Power a at s b) =
-    exponents_given t a >>= λ _. folded t b >>= λ y. exponent_at limited at s y >>= λ k. Ok tt
-exponents_given t (Paren a) = exponents_given t a
-exponents_given t (Call f a b) = exponents_given t a >>= λ _. exponents_given t b
-
--- those of both sides of an equation
-abbrev pub right_exponents : Table → Option Expr → Folded (Unit {0})
-right_exponents t None = Ok tt
-right_exponents t (Some e) = exponents_given t e
-
-abbrev pub item_exponents : Table → Item → Folded (Unit {0})
-item_exponents t x = exponents_given t x.left >>= λ _. right_exponents t x.right
-
--- those of these equations
-abbrev pub all_exponents : Table → List Item → Folded (Unit {0})
-all_exponents t [] = Ok tt
-all_exponents t (x ∷ xs) = item_exponents t x >>= λ _. all_exponents t xs

@@ -3,17 +3,19 @@
 //! functions here state laws, and do nothing.
 #![tactic(auto)]
 
-ghost use Rattle.std.specs.Prelude.{◌≡◌, ℕ, List, Some, Ok};
+ghost use Rattle.std.specs.Prelude.{◌≡◌, ℕ, ℤ, List, Some, Ok};
 ghost use Rattle.mp_rational.specs.Fraction.{Fraction};
 ghost use Rattle.mp_syntax.specs.Syntax.{Expr};
-ghost use Rattle.mp_statements.specs.Statements.{Statement};
+ghost use Rattle.mp_statements.specs.Statements.{Statement, Item};
 ghost use Rattle.mp_semantics.specs.Term.{Term};
 ghost use Rattle.mp_semantics.specs.Model as m;
 ghost use Rattle.mp_values.specs.Table.{Table};
 ghost use Rattle.mp_values.specs.Names.{Names};
 ghost use Rattle.mp_values.specs.Limits.{exact, limited};
 ghost use Rattle.mp_values.specs.Values.{value_by, values_by};
-ghost use Rattle.mp_values.specs.ModelOf.{term_by, model_given, model_of};
+ghost use Rattle.mp_values.specs.Exponents.{all_exponents};
+ghost use Rattle.mp_values.specs.From.{used_up, equations_from};
+ghost use Rattle.mp_values.specs.ModelOf.{term_by, each, equation_given, model_given, model_of};
 
 /// Where the limits of numbers refuse nothing, they change nothing.
 pub fn limits_law()
@@ -24,3 +26,9 @@ pub fn limits_law()
 {
     mp_frac::laws::answer_laws();
 }
+
+/// Equations that take their exponents, in text order, from the list of them are the equations whose exponents are valued
+/// where they stand, and nothing is left of the list.
+pub fn exponents_law()
+    ensures { (ns : Names) (t : Table) (items : List Item) (ks : List ℤ) → all_exponents t items ≡ Ok ks → equations_from ns items ks ≡ used_up (each (equation_given ns t) items) }
+{}

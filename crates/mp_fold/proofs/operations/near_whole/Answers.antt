@@ -9,5 +9,5 @@ use Rattle.mp_fold.proofs.operations.near_whole.Goals as goal
 pub returns-in-Some-clause-whole : goal.returns-in-Some-clause-whole
 returns-in-Some-clause-whole c =
     let fits : SFits w8 c.in-Some.k = search rules in
-    whole_by (value_of c.args.exponent) c.parts-parts.result.n c.parts-parts.result.d c.in-Some.k c.parts-parts.ensures.numerator c.parts-parts.ensures.denominator c.in-Some.ensures
+    whole_by (value_of c.args.exponent) c.parts-parts.result.n c.parts-parts.result.d c.in-Some.k c.parts-parts.ensures.numerator c.parts-parts.ensures.denominator c.in-Some.ensures.given
     ∙ ap whole (sym (to_z-of_z w8 c.in-Some.k fits))

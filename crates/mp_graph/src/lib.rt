@@ -1,0 +1,18 @@
+//! Expressions as nodes of one graph, each once, and the passes over them.
+#![tactic(auto)]
+
+pub mod fold;
+pub mod graph;
+pub mod kids;
+pub mod node_id;
+pub mod op;
+pub mod own;
+pub mod rewrite;
+pub mod tree;
+
+pub use fold::{Fold, folded, row_at};
+pub use graph::{Graph, Ref};
+pub use node_id::NodeId;
+pub use op::{BinaryOp, LeafOp, NodeOp};
+pub use own::own_laws;
+pub use rewrite::{Rewrite, rewritten};
