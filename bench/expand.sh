@@ -31,6 +31,12 @@ measure "a line of 70 bytes and a value, 100,000 turns"
 awk 'BEGIN { for (i = 0; i < 8300000; i++) printf "\n" }' > m
 measure "8.3 MB of newlines"
 
+awk 'BEGIN { for (i = 0; i < 440000; i++) printf "@#ifdef a\n\n@#endif\n" }' > m
+measure "8.4 MB of groups, 440,000"
+
+awk 'BEGIN { printf "@#define A = 1"; for (i = 0; i < 2790000; i++) printf "+-1"; print "" }' > m
+measure "a sum of 8.4 MB, 2,790,000 terms"
+
 awk 'BEGIN { printf "@#include \"m\"\n"; for (i = 0; i < 8300000; i++) printf "\n" }' > m
 measure "itself included, and 8.3 MB of newlines"
 
