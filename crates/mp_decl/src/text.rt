@@ -65,7 +65,7 @@ fn far_literal(tokens: &Tokens) -> Option<u32>
 {
     'turns: for token in tokens.as_slice() {
         if is_far(token) {
-            return Some(token.span.at);
+            return Some(token.at);
         }
     }
     None

@@ -25,7 +25,7 @@ pub fn name_of<'a, 't>(tokens: Rest<'a, 't>) -> Result<(Named<'t>, Rest<'a, 't>)
     Ok((
         Named {
             name: token.text,
-            at: token.span.at,
+            at: token.at,
         },
         rest,
     ))

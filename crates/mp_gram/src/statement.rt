@@ -86,13 +86,7 @@ fn model_of<'a, 't>(
     let (items, rest) = items_of(alloc, rest)?;
     let (_, rest) = expect(rest, Terminal::End)?;
     let (_, rest) = expect(rest, Terminal::Semicolon)?;
-    Ok((
-        Statement::Model {
-            at: word.span.at,
-            items,
-        },
-        rest,
-    ))
+    Ok((Statement::Model { at: word.at, items }, rest))
 }
 
 // A statement.

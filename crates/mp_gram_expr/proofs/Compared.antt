@@ -1,5 +1,5 @@
 -- When the code's comparison of terminals is the definition's.
-use Rattle.std.proofs.Common.{◌≡◌, Bool, true, false, refl, sym, ap, ◌∙◌, subst, rules}
+use Rattle.std.proofs.Common.{◌≡◌, Bool, true, false, refl, subst, rules}
 use denote.Enum.Bare.{sameb, same_true, same_false}
 use Rattle.mp_tokens.specs.declared.terminal.Terminal.{Terminal}
 use Rattle.mp_tokens.specs.declared.terminal.Terminal.TheVariants as t

@@ -1,5 +1,5 @@
 -- A loop over what a format repeats: told for what is left.
-use Rattle.std.proofs.Common.{◌≡◌, List, [], ◌∷◌, ◌++◌, Bool, true, false, cond, Option, Some, None, Result, Ok, Err, refl, sym, ap, ◌∙◌}
+use Rattle.std.proofs.Common.{◌≡◌, List, [], ◌∷◌, ◌++◌, true, false, cond, Some, None, Result, Ok, Err, refl, sym, ap, ◌∙◌}
 use Rattle.mp_tokens.specs.Tokens.{Tok}
 use Rattle.mp_syntax.specs.Syntax.{Expr}
 use Rattle.mp_format.specs.Reading.{Read, ◌>>=◌}

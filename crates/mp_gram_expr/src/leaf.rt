@@ -1,8 +1,9 @@
 // What stands in an expression without leading back to one.
 ghost use Rattle.std.specs.Prelude.{◌≡◌, ◌<◌, ◌≤◌, length, option_map, IfOk};
 ghost use Rattle.mp_lex.specs.Shown.{tok_of};
-ghost use Rattle.mp_file.specs.Shown.{shift_of, expr_of};
-ghost use Rattle.mp_format.specs.Format.{opt, read};
+ghost use Rattle.mp_syntax.specs.Syntax as s;
+ghost use Rattle.mp_file.specs.Shown.{shift_of, named_of, expr_of};
+ghost use Rattle.mp_format.specs.Format.{opt, via, read, meets, first};
 ghost use Rattle.mp_expressions.specs.Productions.{sign_format};
 ghost use Rattle.mp_expressions.specs.Expressions.{shift, fenced, shift_part, flat_atom, times_format, plus_format};
 ghost use Rattle.mp_gram_expr.specs.Shown.{toks};
@@ -12,6 +13,15 @@ use crate::rest::{Rest, Wrong, expect, meets, wrong_at};
 use mp_file::{Expression, Named, Shift};
 use mp_syntax::{Operator, Sign};
 use mp_tokens::Terminal;
+use std::alloc::Global;
+
+// Whether a sign stands here.
+#[tactic(auto, unfolding(mp_format::specs::Format::first))]
+pub(crate) fn sign_begins(tokens: Rest) -> bool
+    ensures { result ≡ meets (first sign_format) (toks tokens.now) }
+{
+    meets(tokens, Terminal::Plus) || meets(tokens, Terminal::Minus)
+}
 
 // A sign, if there is one.
 #[tactic(auto, unfolding(mp_format::specs::Format::read, mp_format::specs::Format::first))]
@@ -66,7 +76,7 @@ fn fenced_of<'a, 't>(tokens: Rest<'a, 't>) -> Result<(Shift<'t>, Rest<'a, 't>), 
 
 // The same, if there is one.
 #[tactic(auto, unfolding(mp_expressions::specs::Expressions::fenced, mp_format::specs::Format::first, mp_format::specs::Format::empty), using(crate::proofs::Turns::opt_none, crate::proofs::Turns::opt_some))]
-pub(crate) fn shift_part_of<'a, 't>(
+fn shift_part_of<'a, 't>(
     tokens: Rest<'a, 't>,
 ) -> Result<(Option<Shift<'t>>, Rest<'a, 't>), Wrong<'a, 't>>
     ensures value { Gives (λ x. (option_map shift_of x.0, toks x.1.now)) result (read shift_part (toks tokens.now)) }
@@ -77,6 +87,21 @@ pub(crate) fn shift_part_of<'a, 't>(
         return Ok((Some(shift), rest));
     }
     Ok((None, tokens))
+}
+
+// The variable of this name, with the shift after it.
+#[inline(never)]
+#[tactic(auto, unfolding(mp_format::specs::Format::read))]
+pub(crate) fn variable_of<'a, 't>(
+    alloc: Global,
+    name: Named<'t>,
+    tokens: Rest<'a, 't>,
+) -> Result<(Expression<'t>, Rest<'a, 't>), Wrong<'a, 't>>
+    ensures value { Gives (λ x. (expr_of x.0, toks x.1.now)) result (read (via (λ p. s.Variable (named_of name.entry) p) shift_part) (toks tokens.now)) }
+    ensures fewer { IfOk result (λ x. length x.1.now ≤ length tokens.now) }
+{
+    let (shift, rest) = shift_part_of(tokens)?;
+    Ok((Expression::variable(alloc, name, shift)?, rest))
 }
 
 // A number or a name, where no more "(" may be open.
@@ -90,7 +115,7 @@ pub(crate) fn flat_atom_of<'a, 't>(
     let Some((t, rest)) = tokens.split_first() else {
         return wrong_at(tokens);
     };
-    let at = t.span.at;
+    let at = t.at;
     match t.terminal() {
         Terminal::Whole | Terminal::Number => {
             let literal = t.text;
@@ -117,8 +142,8 @@ pub(crate) fn times_of<'a, 't>(
         return wrong_at(tokens);
     };
     match t.terminal() {
-        Terminal::Star => return Ok(((Operator::Times, t.span.at), rest)),
-        Terminal::Slash => return Ok(((Operator::Over, t.span.at), rest)),
+        Terminal::Star => return Ok(((Operator::Times, t.at), rest)),
+        Terminal::Slash => return Ok(((Operator::Over, t.at), rest)),
         _ => {}
     }
     wrong_at(tokens)
@@ -136,8 +161,8 @@ pub(crate) fn plus_of<'a, 't>(
         return wrong_at(tokens);
     };
     match t.terminal() {
-        Terminal::Plus => return Ok(((Operator::Plus, t.span.at), rest)),
-        Terminal::Minus => return Ok(((Operator::Minus, t.span.at), rest)),
+        Terminal::Plus => return Ok(((Operator::Plus, t.at), rest)),
+        Terminal::Minus => return Ok(((Operator::Minus, t.at), rest)),
         _ => {}
     }
     wrong_at(tokens)

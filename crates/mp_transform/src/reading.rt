@@ -77,7 +77,7 @@ fn stops_at(token: &Token) -> Refusal
 {
     Refusal::Text {
         kind: TextKind::Token,
-        at: token.span.at,
+        at: token.at,
         token: Label::of(token.text),
     }
 }
