@@ -1,6 +1,6 @@
 // What stands beside a path.
-ghost use Rattle.std.specs.Prelude.{◌≡◌, ◌+◌, ◌-◌, ◌*◌, ◌^◌, ◌<◌, ◌≤ℤ◌, negsuc, map, slice_get, Some, IsSome, IfOk};
-ghost use Rattle.mp_expr.specs.Shown.{variable_of};
+ghost use Rattle.std.specs.Prelude.{◌≡◌, ◌+◌, ◌*◌, ◌^◌, ◌<◌, ◌≤ℤ◌, negsuc, map, slice_get, Some, IsSome, IfOk};
+ghost use Rattle.mp_expr.specs.Shown.{place_of, variable_of};
 ghost use Rattle.mp_frac.specs.Value.{value_of};
 ghost use Rattle.mp_path.specs.Edges.{edge_of, periods_to, outside_to};
 
@@ -72,10 +72,10 @@ impl Boundary {
 
     /// The value of a parameter, by its number from 1.
     pub fn param(&self, p: u32) -> Frac
-        requires { IsSome (slice_get self.now.parameters (p - 1)) }
-        ensures { slice_get self.now.parameters (p - 1) ≡ Some (value_of result) }
+        requires { IsSome (slice_get self.now.parameters (place_of p)) }
+        ensures { slice_get self.now.parameters (place_of p) ≡ Some (value_of result) }
     {
-        self.parameters[p.saturating_sub(1) as usize]
+        self.parameters[place_of(p) as usize]
     }
 
     /// The value of a variable in a period from -24 to 24 behind the last one; of an endogenous one outside the horizon.
@@ -106,10 +106,17 @@ impl Boundary {
 
 /// The place of the value after `before` others of the variable `n`, from 1, of `width` values each.
 fn place(n: u32, width: usize, before: usize) -> usize
-    requires { (n - 1) * width + before < 2 ^ 64 }
-    ensures { result ≡ (n - 1) * width + before }
+    requires { place_of n * width + before < 2 ^ 64 }
+    ensures { result ≡ place_of n * width + before }
 {
-    n.saturating_sub(1) as usize * width + before
+    place_of(n) as usize * width + before
+}
+
+/// The place, from 0, of a name by its number from 1.
+pub(crate) fn place_of(n: u32) -> u32
+    ensures { result ≡ place_of n }
+{
+    if n == 0 { u32::MAX } else { n - 1 }
 }
 
 /// How many periods stand from -24 on before period `t`.

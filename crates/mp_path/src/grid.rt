@@ -1,13 +1,13 @@
 // The values of a path.
 ghost use Rattle.std.specs.Prelude.{◌≡◌, ◌+◌, ◌-◌, ◌*◌, ◌≤◌, ◌<◌, ℕ, ℤ, pos, replicate, slice_get, option_map, length, Some, IsSome, IfOk};
-ghost use Rattle.mp_expr.specs.Shown.{variable_of};
+ghost use Rattle.mp_expr.specs.Shown.{place_of, variable_of};
 ghost use Rattle.mp_semantics.specs.Term.{Variable, endogenous};
 ghost use Rattle.mp_semantics.specs.Solves.{is_inside};
 ghost use Rattle.mp_walk.specs.Cells.{units, exact};
 ghost use Rattle.mp_path.specs.Edges.{edge_of};
 ghost use Rattle.mp_path.specs.Points.{point_of, slot_place, cell_of, ratio_value, IsCell, IsPart};
 
-use crate::boundary::Boundary;
+use crate::boundary::{Boundary, place_of};
 use mp_base::{NoMemory, Ratio};
 use mp_expr::VarId;
 use mp_fix::Fix;
@@ -73,7 +73,7 @@ impl Grid {
     {
         match v {
             VarId::Endo(n) if self.is_inside(t) => {
-                Cell::Units(self.units[self.place(t as u32, n.saturating_sub(1))])
+                Cell::Units(self.units[self.place(t as u32, place_of(n))])
             }
             VarId::Endo(_) => self.exact(t, v),
             VarId::Exo(_) => self.exact(t, v),
@@ -104,8 +104,8 @@ impl Grid {
 
     /// The value of a parameter, by its number from 1.
     pub fn param(&self, p: u32) -> Ratio
-        requires { IsSome (slice_get self.now.edges.parameters (p - 1)) }
-        ensures value { slice_get self.now.edges.parameters (p - 1) ≡ Some (ratio_value result) }
+        requires { IsSome (slice_get self.now.edges.parameters (place_of p)) }
+        ensures value { slice_get self.now.edges.parameters (place_of p) ≡ Some (ratio_value result) }
         ensures within { IsPart result }
     {
         self.boundary.param(p).parts()
