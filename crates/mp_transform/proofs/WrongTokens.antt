@@ -18,7 +18,8 @@ use Rattle.mp_declared.specs.Heights.{greatest_height}
 use Rattle.mp_semantics.specs.Model.{Model}
 use Rattle.mp_values.specs.Table.{Table}
 use Rattle.mp_values.specs.Limits.{Stuck, Unvalued, Refused, Folded}
-use Rattle.mp_values.specs.Values.{values_given, all_exponents}
+use Rattle.mp_values.specs.Values.{values_given}
+use Rattle.mp_values.specs.Exponents.{all_exponents}
 use Rattle.mp_values.specs.ModelOf.{model_given}
 use Rattle.mp_canonical.specs.Files.{canonical_text}
 use Rattle.mp_decl.specs.Given.{stuck_told, unless_fault, unless_far, unless_stuck, values_told, declared_given}
