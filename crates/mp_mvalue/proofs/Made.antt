@@ -6,11 +6,11 @@ use Rattle.mp_mvalue.specs.declared.value.Value.{Value}
 use Rattle.mp_mvalue.specs.declared.value.Value.TheVariants as v
 use Rattle.mp_mvalue.specs.declared.sharing.SharedValue.{SharedValue}
 use Rattle.mp_mvalue.specs.declared.gathered.Gathered.{Gathered}
-use Rattle.mp_mvalue.specs.Gathers.{Gathers, IsWithin}
+use Rattle.mp_mvalue.specs.Gathers.{Gathers}
 use Rattle.mp_mvalue.specs.Made.{made}
 use Rattle.mp_mvalue.specs.Measures.{spread, IsMeasured}
 use Rattle.mp_mvalue.specs.Shared.{unshared, all_unshared}
-use Rattle.mp_mvalue.specs.Values.{depth, deepest, shown, printed}
+use Rattle.mp_mvalue.specs.Values.{depth, deepest, shown}
 use Rattle.mp_mvalue.proofs.Lengths.{length-printed, spread-append, deepest-append}
 
 pub made-many : (xs : List Value) → 100000 < length xs → made xs ≡ Err ArrayLimit

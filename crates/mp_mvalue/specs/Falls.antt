@@ -1,6 +1,6 @@
 -- An array weighs more than each of its elements.
 use Rattle.std.specs.Prelude.{◌≡◌, ℕ, ◌+◌, ◌*◌, ◌≤◌, List, [], ◌∷◌, map}
-use Rattle.std.proofs.Common.{max, refl, sym, ap, subst, ◌∙◌, rules, arith}
+use Rattle.std.proofs.Common.{max, refl, sym, ap, subst, rules, arith}
 use denote.Param.Weighed.{most}
 use Rattle.mp_mvalue.specs.declared.value.Value.{Value, Row_of-Value, items-the_row-Value, end_of-Value, more_of-Value}
 use Rattle.mp_mvalue.specs.declared.value.Value.TheVariants as v

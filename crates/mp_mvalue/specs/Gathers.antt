@@ -1,5 +1,5 @@
 -- What is known of gathered elements.
-use Rattle.std.specs.Prelude.{◌≡◌, ℕ, ◌≤◌, min, List, length}
+use Rattle.std.specs.Prelude.{◌≡◌, ◌≤◌, min, List, length}
 use Rattle.mp_mvalue.specs.declared.value.Value.{Value}
 use Rattle.mp_mvalue.specs.declared.gathered.Gathered.{Gathered}
 use Rattle.mp_mvalue.specs.Values.{deepest}

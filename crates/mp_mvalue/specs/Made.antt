@@ -1,5 +1,5 @@
 -- Texts and arrays within the limits.
-use Rattle.std.specs.Prelude.{ℕ, ◌++◌, List, length, ◌&&◌, if◌then◌else◌, nat_le, Result, Ok, Err}
+use Rattle.std.specs.Prelude.{List, length, ◌&&◌, if◌then◌else◌, nat_le, Result, Ok, Err}
 use Rattle.mp_base.specs.declared.kinds.MacroKind.{MacroKind}
 use Rattle.mp_base.specs.declared.kinds.MacroKind.TheVariants.{ArrayLimit, TextLimit}
 use Rattle.mp_mvalue.specs.declared.value.Value.{Value}
