@@ -166,7 +166,7 @@ values_form [] is = tt
 values_form (p ∷ ps) is = ((is.0, value_form p.value), values_form ps is.1)
 
 module _ (room : ℕ) (low : room ≤ 500) (ns : Names) where
-  equation_form : (e : m.Equation) → IsPrintableEquation room ns e → IsItem (equation_part ns e)
+  pub equation_form : (e : m.Equation) → IsPrintableEquation room ns e → IsItem (equation_part ns e)
   equation_form e is = (canonical_form ns room e.left is.left_side low, canonical_form ns room e.right is.right_side low)
 
   equations_form : (es : List m.Equation) → AllByRecursion (IsPrintableEquation room ns) es → FitsAll IsStatement (equations_part ns es)

@@ -16,3 +16,4 @@ pub mod FileNames
 pub mod Back
 pub mod Texts
 pub mod Lines
+pub mod Tagged
