@@ -12,7 +12,8 @@ use Rattle.mp_tokens.specs.Literals.{far_literal}
 use Rattle.mp_statements.specs.Parts.{equations_of}
 use Rattle.mp_values.specs.Table.{Table}
 use Rattle.mp_values.specs.Limits.{Stuck, Unvalued, Refused, Folded}
-use Rattle.mp_values.specs.Values.{values_given, all_exponents}
+use Rattle.mp_values.specs.Values.{values_given}
+use Rattle.mp_values.specs.Exponents.{all_exponents}
 use Rattle.mp_declared.specs.Declared.{Fault, declared_fault}
 use Rattle.mp_decl.specs.declared.fault.DeclFault.{DeclFault}
 use Rattle.mp_decl.specs.declared.fault.DeclFault.TheVariants as f

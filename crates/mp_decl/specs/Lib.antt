@@ -1,3 +1,4 @@
+pub mod Exponents
 pub mod Given
 pub mod Grown
 pub mod Search

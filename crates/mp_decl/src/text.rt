@@ -5,10 +5,11 @@ ghost use Rattle.mp_statements.specs.Parts.{equations_of};
 ghost use Rattle.mp_lex.specs.Shown.{tok_of};
 ghost use Rattle.mp_file.specs.Shown.{statement_of, file_of};
 ghost use Rattle.mp_values.specs.Names.{names_of};
-ghost use Rattle.mp_values.specs.Values.{all_exponents};
+ghost use Rattle.mp_values.specs.Exponents.{all_exponents};
 ghost use Rattle.mp_declared.specs.Declared.{declared_fault};
-ghost use Rattle.mp_fold.specs.Shown.{shown, stuck_of};
+ghost use Rattle.mp_fold.specs.Shown.{stuck_of};
 ghost use Rattle.mp_decl.specs.Given.{whole_told, values_told, declared_given, refusal, Tells};
+ghost use Rattle.mp_decl.specs.Exponents.{Collects};
 
 use crate::fault::DeclFault;
 use crate::file::declared_names;
@@ -16,18 +17,19 @@ use crate::known::wrong;
 use crate::parts::items_of;
 use mp_base::{DataKind, DataRefusal, DeclKind, Reduced};
 use mp_file::{File, Named, Statement};
-use mp_fold::{FoldFault, assign_values, exponents, lowest_terms};
+use mp_fold::{Exponent, ExponentFault, FoldFault, add_exponents, assign_values, lowest_terms};
 use mp_lex::{Token, Tokens};
 use mp_literal::decimal;
 use mp_names::{Names, Table};
 use mp_tokens::TokenKind;
 use std::alloc::Global;
 
-/// The names that a text declares, and its parameters with their values.
+/// The names that a text declares, its parameters with their values, and the exponents of its equations in text order.
 #[derive(Drop)]
 pub struct Declared<'t> {
     pub names: Names<'t>,
     pub values: Table<'t>,
+    pub exponents: Vec<Exponent>,
 }
 
 /// What a text declares, by its tokens, its file and its length in bytes, or its first refusal: the first fault in
@@ -43,6 +45,7 @@ pub fn declare<'t>(
 ) -> Result<Declared<'t>, DeclFault>
     ensures values { IfOk result (λ d. declared_given end tokens.now (file_of file.now) ≡ Ok d.values) }
     ensures names { IfOk result (λ d. d.names ≡ names_of (file_of file.now)) }
+    ensures exponents { IfOk result (λ d. all_exponents d.values (equations_of (file_of file.now)) ≡ Ok d.exponents.items) }
     ensures without_fault { IfOk result (λ d. declared_fault end (file_of file.now) ≡ None) }
     ensures refused { IfErr result (λ e. Tells e (declared_given end tokens.now (file_of file.now))) }
 {
@@ -53,10 +56,7 @@ pub fn declare<'t>(
     if let Some(at) = far_literal(tokens) {
         return Err(literal_fault(at));
     }
-    match values(alloc, &names, file.statements.as_slice(), end) {
-        Ok(values) => Ok(Declared { names, values }),
-        Err(fault) => Err(fault),
-    }
+    valued(alloc, names, file.statements.as_slice(), end)
 }
 
 // The place of the first number that is out of range.
@@ -96,39 +96,51 @@ fn literal_fault(at: u32) -> DeclFault
     })
 }
 
-// The parameters with their values, where each exponent of the equations is one.
-fn values<'t>(
+// These names, the parameters with their values, and the exponents of the equations.
+fn valued<'t>(
     alloc: Global,
-    names: &Names<'t>,
+    names: Names<'t>,
     statements: &[Statement<'t>],
     end: u32,
-) -> Result<Table<'t>, DeclFault>
-    requires { names.now.parameters ≡ (names_of (map statement_of statements.now)).parameters }
-    ensures given { IfOk result (λ t. values_told end (map statement_of statements.now) ≡ Ok t) }
+) -> Result<Declared<'t>, DeclFault>
+    requires { names.parameters ≡ (names_of (map statement_of statements.now)).parameters }
+    ensures names { IfOk result (λ d. d.names ≡ names.entry) }
+    ensures given { IfOk result (λ d. values_told end (map statement_of statements.now) ≡ Ok d.values) }
+    ensures exponents { IfOk result (λ d. all_exponents d.values (equations_of (map statement_of statements.now)) ≡ Ok d.exponents.items) }
     ensures refused { IfErr result (λ e. Tells e (values_told end (map statement_of statements.now))) }
 {
-    let Ok(mut table) = Table::of_parameters(alloc, names) else {
+    let Ok(mut values) = Table::of_parameters(alloc, &names) else {
         return Err(DeclFault::NoMemory);
     };
-    if let Err(fault) = assign_values(&mut table, statements) {
+    if let Err(fault) = assign_values(&mut values, statements) {
         return Err(told(fault, end));
     }
-    if let Err(fault) = all_exponents(&table, statements) {
-        return Err(told(fault, end));
+    match exponents(alloc, &values, statements) {
+        Ok(exponents) => Ok(Declared {
+            names,
+            values,
+            exponents,
+        }),
+        Err(ExponentFault::Refused(fault)) => Err(told(fault, end)),
+        Err(ExponentFault::NoMemory) => Err(DeclFault::NoMemory),
     }
-    Ok(table)
 }
 
-// Whether each exponent of the equations is one.
-fn all_exponents<'t>(table: &Table<'t>, statements: &[Statement<'t>]) -> Result<(), FoldFault<'t>>
-    ensures { shown (λ u. u) result ≡ all_exponents table.now (equations_of (map statement_of statements.now)) }
+// The exponents of the equations in text order.
+fn exponents<'t>(
+    alloc: Global,
+    table: &Table<'t>,
+    statements: &[Statement<'t>],
+) -> Result<Vec<Exponent>, ExponentFault<'t>>
+    ensures { Collects (λ v. v.items) result (all_exponents table.now (equations_of (map statement_of statements.now))) }
 {
+    let mut found = Vec::new(alloc);
     'turns: for statement in statements {
-        if let Err(fault) = exponents(table, items_of(statement)) {
+        if let Err(fault) = add_exponents(table, items_of(statement), &mut found) {
             return Err(fault);
         }
     }
-    Ok(())
+    Ok(found)
 }
 
 // Why there is no value, with the end of the text as the place of a name.

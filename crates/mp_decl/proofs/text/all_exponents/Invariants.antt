@@ -1,8 +1,0 @@
-use Rattle.std.proofs.Common.{◌≡◌, map, drop}
-use Rattle.mp_statements.specs.Parts.{equations_of}
-use Rattle.mp_file.specs.Shown.{statement_of}
-use Rattle.mp_values.specs.Values.{all_exponents}
-use Rattle.mp_decl.proofs.text.all_exponents.Given as goal
-
-abbrev pub invariant-turns : goal.invariant-turns
-invariant-turns l = all_exponents l.table (equations_of (map statement_of (drop l.statement-index l.statements))) ≡ all_exponents l.table (equations_of (map statement_of l.statements))
