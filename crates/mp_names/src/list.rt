@@ -55,6 +55,14 @@ impl<'t> NameList<'t> {
         Ok(added)
     }
 
+    // Whether the name is new and there is no room for it.
+    fn is_full(&self, name: &[u8]) -> bool
+        ensures { IsTrue result ↔ IsFull self.now name.now }
+    {
+        let _ = &self.set;
+        self.set.len() >= MOST && !self.has(name)
+    }
+
     /// The same names.
     pub fn copy(&self) -> Result<NameList<'t>, NoMemory>
         ensures { IfOk result (λ names. names ≡ self.now) }
@@ -63,14 +71,6 @@ impl<'t> NameList<'t> {
             Ok(set) => Ok(NameList { set }),
             Err(_) => Err(NoMemory),
         }
-    }
-
-    // Whether the name is new and there is no room for it.
-    fn is_full(&self, name: &[u8]) -> bool
-        ensures { IsTrue result ↔ IsFull self.now name.now }
-    {
-        let _ = &self.set;
-        self.set.len() >= MOST && !self.has(name)
     }
 
     /// Whether the name is there.

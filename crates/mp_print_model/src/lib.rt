@@ -1,8 +1,9 @@
-//! The canonical text of a model: expressions by levels, with the fewest parentheses that the levels allow.
+//! The canonical text of a model and of an expression: by levels, with the fewest parentheses that the levels allow.
 #![tactic(auto)]
 
 pub mod model;
+pub mod node;
 pub mod number;
-pub mod tree;
 
 pub use model::print_model;
+pub use node::print_tree;

@@ -1,17 +1,16 @@
 // The text of a model.
 ghost use Rattle.std.specs.Prelude.{◌≡◌, ◌++◌, map, OnOk, IfOk};
-ghost use Rattle.std.specs.List.{flat_map};
-ghost use Rattle.mp_statements.specs.declared.kind.NameKind.TheVariants as kind;
-ghost use Rattle.mp_model_data.specs.Shown.{parameter_of, equation_of, model_data};
-ghost use Rattle.mp_canonical.specs.Printable.{model_names};
+ghost use Rattle.std.specs.List.{flat_map, AllByRecursion};
+ghost use Rattle.mp_model_data.specs.Shown.{IsWithin, parameter_of, equation_in, model_data};
 ghost use Rattle.mp_canonical.specs.Files.{names_part, value_part, equation_part, equations_part, canonical_text};
 ghost use Rattle.mp_canonical.specs.Spelled.{item_text, kind_word, name_text, statement_text, lines_of};
-ghost use Rattle.mp_print_model.specs.Parts.{parameter_names};
 
+use crate::node::put_node;
 use crate::number::put_fraction;
-use crate::tree::put_tree;
 use mp_base::{Bytes, NoMemory};
+use mp_graph::Graph;
 use mp_model_data::{Model, Parameter, Sides};
+use mp_names::NameList;
 use mp_statements::NameKind;
 use std::alloc::Global;
 
@@ -20,19 +19,34 @@ use std::alloc::Global;
 pub fn print_model(alloc: Global, model: &Model) -> Result<Bytes, NoMemory>
     ensures { IfOk result (λ text. text ≡ canonical_text (model_data model.now)) }
 {
+    let graph = model.graph();
+    let names = graph.names();
     let mut out = Bytes::new(alloc);
-    put_names(&mut out, NameKind::Endogenous, model.endogenous_names())?;
-    put_names(&mut out, NameKind::Exogenous, model.exogenous_names())?;
-    put_parameters(&mut out, model.parameters())?;
+    put_names(
+        &mut out,
+        NameKind::Endogenous,
+        names.of_kind(NameKind::Endogenous),
+    )?;
+    put_names(
+        &mut out,
+        NameKind::Exogenous,
+        names.of_kind(NameKind::Exogenous),
+    )?;
+    put_names(
+        &mut out,
+        NameKind::Parameter,
+        names.of_kind(NameKind::Parameter),
+    )?;
     put_values(&mut out, model.parameters())?;
-    put_equations(&mut out, model.equations(), model)?;
+    put_equations(&mut out, graph, model.equations())?;
     Ok(out)
 }
 
 // The line that declares these names, if there are any.
-fn put_names(out: &mut Bytes, kind: NameKind, names: &[&[u8]]) -> Result<(), NoMemory>
-    ensures { OnOk result (out.new ≡ out.old ++ lines_of (names_part kind (map (λ n. n.now) names.now))) }
+fn put_names(out: &mut Bytes, kind: NameKind, names: &NameList) -> Result<(), NoMemory>
+    ensures { OnOk result (out.new ≡ out.old ++ lines_of (names_part kind names.now)) }
 {
+    let names = names.as_slice();
     if names.is_empty() {
         return Ok(());
     }
@@ -62,28 +76,6 @@ fn put_each(out: &mut Bytes, names: &[&[u8]]) -> Result<(), NoMemory>
     Ok(())
 }
 
-// The line that declares the parameters, if there are any.
-fn put_parameters(out: &mut Bytes, parameters: &[Parameter]) -> Result<(), NoMemory>
-    ensures { OnOk result (out.new ≡ out.old ++ lines_of (names_part kind.Parameter (parameter_names parameters.now))) }
-{
-    if parameters.is_empty() {
-        return Ok(());
-    }
-    put_kind(out, NameKind::Parameter)?;
-    put_each_parameter(out, parameters)?;
-    out.add(b";\n")
-}
-
-fn put_each_parameter(out: &mut Bytes, parameters: &[Parameter]) -> Result<(), NoMemory>
-    ensures { OnOk result (out.new ≡ out.old ++ flat_map name_text (parameter_names parameters.now)) }
-{
-    'turns: for parameter in parameters {
-        out.add(b" ")?;
-        out.add(parameter.name)?;
-    }
-    Ok(())
-}
-
 // The lines that give the parameters their values.
 fn put_values(out: &mut Bytes, parameters: &[Parameter]) -> Result<(), NoMemory>
     ensures { OnOk result (out.new ≡ out.old ++ lines_of (map value_part (map parameter_of parameters.now))) }
@@ -104,32 +96,35 @@ fn put_value(out: &mut Bytes, parameter: &Parameter) -> Result<(), NoMemory>
 }
 
 // The model block, if there are equations.
-fn put_equations(out: &mut Bytes, equations: &[Sides], model: &Model) -> Result<(), NoMemory>
-    ensures { OnOk result (out.new ≡ out.old ++ lines_of (equations_part (model_names (model_data model.now)) (map equation_of equations.now))) }
+fn put_equations(out: &mut Bytes, graph: &Graph, equations: &[Sides]) -> Result<(), NoMemory>
+    requires { AllByRecursion (IsWithin graph.now) equations.now }
+    ensures { OnOk result (out.new ≡ out.old ++ lines_of (equations_part graph.now.names (map (equation_in graph.now.terms) equations.now))) }
 {
     if equations.is_empty() {
         return Ok(());
     }
     out.add(b"model;\n")?;
-    put_each_equation(out, equations, model)?;
+    put_each_equation(out, graph, equations)?;
     out.add(b"end;\n")
 }
 
-fn put_each_equation(out: &mut Bytes, equations: &[Sides], model: &Model) -> Result<(), NoMemory>
-    ensures { OnOk result (out.new ≡ out.old ++ flat_map item_text (map (equation_part (model_names (model_data model.now))) (map equation_of equations.now))) }
+fn put_each_equation(out: &mut Bytes, graph: &Graph, equations: &[Sides]) -> Result<(), NoMemory>
+    requires { AllByRecursion (IsWithin graph.now) equations.now }
+    ensures { OnOk result (out.new ≡ out.old ++ flat_map item_text (map (equation_part graph.now.names) (map (equation_in graph.now.terms) equations.now))) }
 {
     'turns: for sides in equations {
-        put_equation(out, sides, model)?;
+        put_equation(out, graph, *sides)?;
     }
     Ok(())
 }
 
 // The line of an equation.
-fn put_equation(out: &mut Bytes, sides: &Sides, model: &Model) -> Result<(), NoMemory>
-    ensures { OnOk result (out.new ≡ out.old ++ item_text (equation_part (model_names (model_data model.now)) (equation_of sides.now))) }
+fn put_equation(out: &mut Bytes, graph: &Graph, sides: Sides) -> Result<(), NoMemory>
+    requires { IsWithin graph.now sides }
+    ensures { OnOk result (out.new ≡ out.old ++ item_text (equation_part graph.now.names (equation_in graph.now.terms sides))) }
 {
-    put_tree(out, &sides.left, model)?;
+    put_node(out, graph, sides.left)?;
     out.add(b" = ")?;
-    put_tree(out, &sides.right, model)?;
+    put_node(out, graph, sides.right)?;
     out.add(b";\n")
 }

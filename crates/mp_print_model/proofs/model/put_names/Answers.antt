@@ -7,7 +7,7 @@ use Rattle.mp_print_model.proofs.model.put_names.Goals as goal
 
 pub returns : goal.returns
 returns c =
-    let names = map (λ n. n.now) c.args.names.now in
-    let full = eqb-false (length c.args.names.now) 0 (sym c.is_empty.ensures ∙ c.if-is_empty.false) in
-    let some : 0 < length names = omega (arith, full, length-map c.args.names.now (λ n. n.now)) in
-    rw (names_lines c.args.kind names some) (grind (arith, common_steps))
+    let names = map (λ n. n.now) c.as_slice-names.result.now in
+    let full = eqb-false (length c.as_slice-names.result.now) 0 (sym c.is_empty.ensures ∙ c.if-is_empty.false) in
+    let some : 0 < length names = omega (arith, full, length-map c.as_slice-names.result.now (λ n. n.now)) in
+    rw (← c.as_slice-names.ensures.names, names_lines c.args.kind names some) (grind (arith, common_steps))

@@ -1,0 +1,11 @@
+use Rattle.std.proofs.Common.{◌+◌, ◌*◌, max}
+use Rattle.mp_print_model.proofs.node.+writer.Given as goal
+
+abbrev pub decreases-put_node : goal.decreases-put_node
+decreases-put_node l = 3 * l.id
+
+abbrev pub decreases-put_fenced : goal.decreases-put_fenced
+decreases-put_fenced l = 3 * l.id + 1
+
+abbrev pub decreases-put_binary : goal.decreases-put_binary
+decreases-put_binary l = 3 * max l.left l.right + 2
