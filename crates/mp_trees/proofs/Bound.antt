@@ -5,10 +5,6 @@ use Rattle.mp_values.specs.Limits.{Folded, Stuck, Unvalued, Refused, ◌>>=◌}
 use Rattle.mp_values.specs.ModelOf.{each}
 use Rattle.mp_trees.specs.declared.fault.ModelFault.{ModelFault}
 use Rattle.mp_trees.specs.declared.fault.ModelFault.TheVariants as fault
-use Rattle.mp_fold.specs.declared.fault.FoldFault.{FoldFault}
-use Rattle.mp_fold.specs.declared.fault.FoldFault.TheVariants as f
-use Rattle.mp_fold.specs.Shown.{stuck_of}
-use Rattle.mp_trees.specs.Faults.{fault_of}
 use Rattle.mp_trees.specs.Gives.{Fails}
 use Rattle.mp_trees.specs.Parts.{after_these}
 
@@ -29,11 +25,6 @@ pub Fails-whole : {A B : Type 0} (e : ModelFault) (part : Folded A) (whole : Fol
 Fails-whole (fault.Unvalued name) part whole h fails = h (Unvalued name) fails
 Fails-whole (fault.Refused refused) part whole h fails = h (Refused refused.kind refused.at (fraction_of refused.first) (fraction_of refused.second)) fails
 Fails-whole fault.NoMemory part whole h fails = tt
-
--- a value that is missing
-pub Fails-fault : {A : Type 0} (f : FoldFault) (given : Folded A) → given ≡ Err (stuck_of f) → Fails (fault_of f) given
-Fails-fault (f.Unvalued name) given is = is
-Fails-fault (f.Refused refused) given is = is
 
 pub Fails-bind : {A B : Type 0} (e : ModelFault) (part : Folded A) (next : A → Folded B) → Fails e part → Fails e (part >>= next)
 Fails-bind e part next fails = Fails-whole e part (part >>= next) (λ s is. ap (λ r. r >>= next) is) fails

@@ -1,4 +1,8 @@
 pub mod Bound
+pub mod Chains
 pub mod Digits
 pub mod Entries
-pub mod Chains
+pub mod Parameters
+pub mod Shortest
+pub mod Taken
+pub mod Whole

@@ -1,9 +1,7 @@
 -- Parts of the model of a file.
-use Rattle.std.specs.Prelude.{ℕ, ℤ, List, ◌++◌, Option, Ok}
-use Rattle.mp_syntax.specs.declared.operator.Sign.{Sign}
-use Rattle.mp_syntax.specs.declared.operator.Operator.{Operator}
+use Rattle.std.specs.Prelude.{ℕ, ℤ, List, [], ◌∷◌, ◌++◌, Option, Ok}
 use Rattle.mp_tokens.specs.Literals.{decimal_of}
-use Rattle.mp_syntax.specs.Syntax.{Shift, Named, Expr}
+use Rattle.mp_syntax.specs.Syntax.{Shift, Named, Further}
 use Rattle.mp_statements.specs.Statements.{Statement}
 use Rattle.mp_rational.specs.Fraction.{Fraction}
 use Rattle.mp_semantics.specs.Term.{Term, binary}
@@ -12,7 +10,7 @@ use Rattle.mp_values.specs.Names.{Names, names_of, named_term, shift_of}
 use Rattle.mp_values.specs.Table.{Table}
 use Rattle.mp_values.specs.ModelOf.{number_by, parameter_of, model_with, parameters_given, equations_given}
 use Rattle.mp_values.specs.Limits.{limited, binary_of, Folded, ◌>>=◌, known}
-use Rattle.mp_values.specs.Values.{folded, exponent_at}
+use Rattle.mp_values.specs.From.{Taken, term_from}
 
 -- the number of a literal at this place
 abbrev pub number_given : List ℕ → ℕ → Folded Term
@@ -21,10 +19,6 @@ number_given literal at = limited.literal at (decimal_of literal) >>= λ n. Ok (
 -- the variable or the parameter of a name
 abbrev pub name_given : Names → Named → Option Shift → Folded Term
 name_given ns name shift = limited.shift name.at (shift_of shift) >>= λ k. known name.name (named_term ns name.name k)
-
--- the exponent of a "^" at this place, with the sign before it
-abbrev pub exponent_given : Table → ℕ → Option Sign → Expr → Folded ℤ
-exponent_given t at s e = folded t e >>= λ y. exponent_at limited at s y
 
 -- a parameter with its value, which it has to have
 abbrev pub parameter_given : List ℕ × Option Fraction → Folded m.Parameter
@@ -38,6 +32,12 @@ after_these front r = r >>= λ more. Ok (front ++ more)
 abbrev pub model_at : List Statement → Table → Folded m.Model
 model_at file t = parameters_given t >>= λ ps. equations_given file t >>= λ es. Ok (model_with (names_of file) ps es)
 
--- two operands joined by their operator
-abbrev pub joined_term : Operator → ℕ → Term → Term → Folded Term
-joined_term o at a b = Ok (binary (binary_of o) a b)
+-- these operands joined to a first one, from left to right, and the exponents that are left
+abbrev pub further_from : Names → Term → List Further → List ℤ → Taken Term
+further_from ns x [] ks = Ok (x, ks)
+further_from ns x (f ∷ more) ks =
+    term_from ns f.operand ks >>= λ y. further_from ns (binary (binary_of f.op) x y.0) more y.1
+
+-- these in front of what is taken
+abbrev pub after_taken : {A : Type 0} → List A → Taken (List A) → Taken (List A)
+after_taken front r = r >>= λ more. Ok (front ++ more.0, more.1)

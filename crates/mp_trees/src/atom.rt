@@ -1,8 +1,11 @@
-// The tree of a number or of a name.
-ghost use Rattle.std.specs.Prelude.{◌≡◌, ◌≤ℤ◌, pos, unsigned_abs, option_map};
+// The node of a number or of a name.
+ghost use Rattle.std.specs.Prelude.{◌≡◌, ◌<◌, ◌≤ℤ◌, pos, length, unsigned_abs, option_map, IfOk};
+ghost use Rattle.std.specs.Option.{ForSome};
+ghost use Rattle.mp_semantics.specs.Term.{leaf};
+ghost use Rattle.mp_graph.specs.Op.{leaf_of, IsLawfulLeaf};
+ghost use Rattle.mp_graph.specs.Shared.{term_at, Keeps};
 ghost use Rattle.mp_tokens.specs.Literals.{number_of};
 ghost use Rattle.mp_file.specs.Shown.{shift_of as named_shift, named_of};
-ghost use Rattle.mp_expr.specs.Shown.{term_of};
 ghost use Rattle.mp_values.specs.Names.{along, named_term, shift_of};
 ghost use Rattle.mp_values.specs.Limits.{limited};
 ghost use Rattle.mp_trees.specs.Gives.{Gives, IsFarLiteral, same, up_to_limit};
@@ -10,10 +13,11 @@ ghost use Rattle.mp_trees.specs.Parts.{number_given, name_given};
 
 use crate::fault::{ModelFault, whole};
 use mp_base::{DataKind, DataRefusal};
-use mp_expr::{Tree, VarId};
+use mp_expr::VarId;
 use mp_file::{Named, Shift};
 use mp_fold::Name;
-use mp_literal::decimal;
+use mp_graph::{Graph, LeafOp, NodeId, NodeOp};
+use mp_literal::{Decimal, decimal};
 use mp_names::{NameId, Names};
 use mp_syntax::Sign;
 
@@ -23,15 +27,18 @@ const LIMIT: u128 = 10000000000000000000000000000000000000;
 // The most periods that a variable may be shifted.
 const FARTHEST: u128 = 24;
 
-// The number that a literal at this place writes.
-pub(crate) fn number_tree<'t>(literal: &[u8], at: u32) -> Result<Tree, ModelFault<'t>>
-    ensures { Gives term_of result (number_given literal.now at) }
+// The node of the number that a literal at this place writes.
+pub(crate) fn number_node<'t>(
+    graph: &mut Graph<'t>,
+    literal: &[u8],
+    at: u32,
+) -> Result<NodeId, ModelFault<'t>>
+    ensures node { Gives (term_at graph.new.terms) result (number_given literal.now at) }
+    ensures within { IfOk result (λ id. id < length graph.new.terms) }
+    ensures kept { Keeps graph.old graph.new }
 {
     match decimal(literal) {
-        Some(number) => Ok(Tree::Num {
-            m: number.m,
-            s: number.s,
-        }),
+        Some(Decimal { m, s }) => Ok(graph.intern(NodeOp::Leaf(LeafOp::Num { m, s }), &[])?),
         None => Err(far_literal(at)),
     }
 }
@@ -48,17 +55,19 @@ fn far_literal<'t>(at: u32) -> ModelFault<'t>
     })
 }
 
-// The variable of a name, shifted, or its parameter.
-pub(crate) fn name_tree<'t>(
+// The node of the variable of a name, shifted, or of its parameter.
+pub(crate) fn name_node<'t>(
+    graph: &mut Graph<'t>,
     name: Named<'t>,
     shift: Option<Shift<'t>>,
-    names: &Names<'t>,
-) -> Result<Tree, ModelFault<'t>>
-    ensures { Gives term_of result (name_given names.now (named_of name.entry) (option_map named_shift shift.entry)) }
+) -> Result<NodeId, ModelFault<'t>>
+    ensures node { Gives (term_at graph.new.terms) result (name_given graph.old.names (named_of name.entry) (option_map named_shift shift.entry)) }
+    ensures within { IfOk result (λ id. id < length graph.new.terms) }
+    ensures kept { Keeps graph.old graph.new }
 {
     let shift = periods(name.at, shift)?;
-    match found_tree(name.name, shift, names) {
-        Some(tree) => Ok(tree),
+    match found_leaf(name.name, shift, graph.names()) {
+        Some(op) => Ok(graph.intern(NodeOp::Leaf(op), &[])?),
         None => Err(ModelFault::Unvalued {
             name: Name::of(name.name),
         }),
@@ -66,20 +75,21 @@ pub(crate) fn name_tree<'t>(
 }
 
 // The variable of a name, shifted, or its parameter, if the name is declared.
-fn found_tree(name: &[u8], shift: i16, names: &Names) -> Option<Tree>
-    ensures { option_map term_of result ≡ named_term names.now name.now shift }
+fn found_leaf(name: &[u8], shift: i16, names: &Names) -> Option<LeafOp>
+    ensures leaf { option_map (λ l. leaf (leaf_of l)) result ≡ named_term names.now name.now shift }
+    ensures lawful { ForSome result (IsLawfulLeaf names.now) }
 {
     let id = names.find(name)?;
     Some(match id {
-        NameId::Endo(n) => Tree::Var {
+        NameId::Endo(n) => LeafOp::Var {
             v: VarId::Endo(n),
             shift,
         },
-        NameId::Exo(n) => Tree::Var {
+        NameId::Exo(n) => LeafOp::Var {
             v: VarId::Exo(n),
             shift,
         },
-        NameId::Param(n) => Tree::Param(n),
+        NameId::Param(n) => LeafOp::Param(n),
     })
 }
 

@@ -1,81 +1,86 @@
 // The equations of a file.
-ghost use Rattle.std.specs.Prelude.{◌≡◌, [], ◌∷◌, ◌++◌, map, option_map, OnOk};
+ghost use Rattle.std.specs.Prelude.{◌≡◌, ◌<◌, [], ◌∷◌, ◌++◌, length, map, option_map, IfOk, OnOk};
+ghost use Rattle.std.specs.List.{AllByRecursion};
 ghost use Rattle.mp_statements.specs.Parts.{items_in, equations_of};
 ghost use Rattle.mp_file.specs.Shown.{expr_of, item_of, statement_of, file_of};
-ghost use Rattle.mp_expr.specs.Shown.{term_of};
-ghost use Rattle.mp_model_data.specs.Shown.{equation_of};
-ghost use Rattle.mp_values.specs.ModelOf.{right_given, equation_given, each};
+ghost use Rattle.mp_graph.specs.Shared.{term_at, Keeps};
+ghost use Rattle.mp_model_data.specs.Shown.{equation_in, IsWithin};
+ghost use Rattle.mp_values.specs.From.{right_from, equation_from, equations_from};
 ghost use Rattle.mp_trees.specs.Gives.{Gives};
-ghost use Rattle.mp_trees.specs.Parts.{after_these};
+ghost use Rattle.mp_trees.specs.Parts.{after_taken};
 
-use crate::expression::tree_of;
+use crate::exponents::Exponents;
+use crate::expression::node_of;
 use crate::fault::ModelFault;
 use mp_base::NoMemory;
-use mp_expr::Tree;
 use mp_file::{Expression, File, Item, Statement};
+use mp_graph::{Graph, LeafOp, NodeId, NodeOp};
 use mp_model_data::Sides;
-use mp_names::{Names, Table};
 use std::alloc::{AllocError, Global};
 
-/// The trees of both sides of an equation: a name has its number among these names, from 1, and an exponent is the whole
-/// number that it is worth where the parameters have these values. A right side that is not written is 0 (Dynare manual,
-/// "The model file").
+/// The nodes of both sides of an equation. A right side that is not written is 0 (Dynare manual, "The model file").
 pub fn sides_of<'t>(
-    alloc: Global,
+    graph: &mut Graph<'t>,
     item: &Item<'t>,
-    names: &Names<'t>,
-    table: &Table<'t>,
+    exponents: &mut Exponents<'_>,
 ) -> Result<Sides, ModelFault<'t>>
-    ensures { Gives equation_of result (equation_given names.now table.now (item_of item.now)) }
+    ensures sides { Gives (λ x. (equation_in graph.new.terms x, exponents.new)) result (equation_from graph.old.names (item_of item.now) exponents.old) }
+    ensures within { IfOk result (IsWithin graph.new) }
+    ensures kept { Keeps graph.old graph.new }
 {
-    let left = tree_of(alloc, &item.left, names, table)?;
-    let right = right_tree(alloc, &item.right, names, table)?;
+    let left = node_of(graph, &item.left, exponents)?;
+    let right = right_node(graph, &item.right, exponents)?;
     Ok(Sides { left, right })
 }
 
-// The tree of a right side.
-fn right_tree<'t>(
-    alloc: Global,
+// The node of a right side.
+fn right_node<'t>(
+    graph: &mut Graph<'t>,
     right: &Option<Expression<'t>>,
-    names: &Names<'t>,
-    table: &Table<'t>,
-) -> Result<Tree, ModelFault<'t>>
-    ensures { Gives term_of result (right_given names.now table.now (option_map expr_of right.now)) }
+    exponents: &mut Exponents<'_>,
+) -> Result<NodeId, ModelFault<'t>>
+    ensures node { Gives (λ id. (term_at graph.new.terms id, exponents.new)) result (right_from graph.old.names (option_map expr_of right.now) exponents.old) }
+    ensures within { IfOk result (λ id. id < length graph.new.terms) }
+    ensures kept { Keeps graph.old graph.new }
 {
     match right {
-        None => Ok(Tree::Num { m: 0, s: 0 }),
-        Some(right) => tree_of(alloc, right, names, table),
+        None => Ok(graph.intern(NodeOp::Leaf(LeafOp::Num { m: 0, s: 0 }), &[])?),
+        Some(right) => node_of(graph, right, exponents),
     }
 }
 
 // The equations of a file, in text order.
 pub(crate) fn sides_of_file<'t>(
     alloc: Global,
+    graph: &mut Graph<'t>,
     file: &File<'t>,
-    names: &Names<'t>,
-    table: &Table<'t>,
+    exponents: &mut Exponents<'_>,
 ) -> Result<Vec<Sides>, ModelFault<'t>>
-    ensures { Gives (λ v. map equation_of v.items) result (each (equation_given names.now table.now) (equations_of (file_of file.now))) }
+    ensures sides { Gives (λ v. (map (equation_in graph.new.terms) v.items, exponents.new)) result (equations_from graph.old.names (equations_of (file_of file.now)) exponents.old) }
+    ensures within { IfOk result (λ v. AllByRecursion (IsWithin graph.new) v.items) }
+    ensures kept { Keeps graph.old graph.new }
 {
     let mut found = Vec::new(alloc);
     'turns: for statement in file.statements.as_slice() {
-        add_each(alloc, &mut found, items_of(statement), names, table)?;
+        add_each(graph, &mut found, items_of(statement), exponents)?;
     }
     Ok(found)
 }
 
 // Adds the equations of these items to those found so far.
 fn add_each<'t>(
-    alloc: Global,
+    graph: &mut Graph<'t>,
     found: &mut Vec<Sides>,
     items: &[Item<'t>],
-    names: &Names<'t>,
-    table: &Table<'t>,
+    exponents: &mut Exponents<'_>,
 ) -> Result<(), ModelFault<'t>>
-    ensures { Gives (λ _. map equation_of found.new.items) result (after_these (map equation_of found.old.items) (each (equation_given names.now table.now) (map item_of items.now))) }
+    requires { AllByRecursion (IsWithin graph.old) found.old.items }
+    ensures sides { Gives (λ _. (map (equation_in graph.new.terms) found.new.items, exponents.new)) result (after_taken (map (equation_in graph.old.terms) found.old.items) (equations_from graph.old.names (map item_of items.now) exponents.old)) }
+    ensures within { OnOk result (AllByRecursion (IsWithin graph.new) found.new.items) }
+    ensures kept { Keeps graph.old graph.new }
 {
     'turns: for item in items {
-        let sides = sides_of(alloc, item, names, table)?;
+        let sides = sides_of(graph, item, exponents)?;
         push(found, sides)?;
     }
     Ok(())
@@ -83,7 +88,7 @@ fn add_each<'t>(
 
 // Adds one equation.
 fn push(found: &mut Vec<Sides>, sides: Sides) -> Result<(), NoMemory>
-    ensures { OnOk result (map equation_of found.new.items ≡ map equation_of found.old.items ++ equation_of sides ∷ []) }
+    ensures { OnOk result (found.new.items ≡ found.old.items ++ sides ∷ []) }
 {
     match found.push(sides) {
         Ok(()) => Ok(()),

@@ -1,142 +1,126 @@
-// The trees of expressions.
-ghost use Rattle.std.specs.Prelude.{◌≡◌, map, IfOk};
+// The nodes of expressions.
+ghost use Rattle.std.specs.Prelude.{◌≡◌, ◌<◌, ◌≤◌, length, map, unsigned_abs, IfOk};
 ghost use Rattle.mp_file.specs.Shown.{expr_of, further_of};
-ghost use Rattle.mp_semantics.specs.Term.{binary, power_of};
-ghost use Rattle.mp_expr.specs.Shown.{term_of};
-ghost use Rattle.mp_values.specs.Chained.{chained};
+ghost use Rattle.mp_semantics.specs.Term.{power_of};
+ghost use Rattle.mp_graph.specs.Op as shown;
+ghost use Rattle.mp_graph.specs.Shared.{term_at, Says, Keeps};
 ghost use Rattle.mp_values.specs.Limits.{binary_of};
-ghost use Rattle.mp_values.specs.ModelOf.{signed_term, binary_called, term_given};
-ghost use Rattle.mp_trees.specs.Gives.{Gives, same};
-ghost use Rattle.mp_trees.specs.Parts.{exponent_given, joined_term};
+ghost use Rattle.mp_values.specs.ModelOf.{signed_term, binary_called};
+ghost use Rattle.mp_values.specs.From.{term_from};
+ghost use Rattle.mp_trees.specs.Gives.{Gives};
+ghost use Rattle.mp_trees.specs.Parts.{further_from};
 
-use crate::atom::{name_tree, number_tree};
+use crate::atom::{name_node, number_node};
+use crate::exponents::Exponents;
 use crate::fault::ModelFault;
 use mp_base::NoMemory;
-use mp_expr::{Tree, boxed};
 use mp_file::{Expression, Further};
-use mp_fold::exponent_value;
-use mp_names::{Names, Table};
+use mp_graph::{BinaryOp, Graph, NodeId, NodeOp};
 use mp_syntax::{Function, Operator, Sign};
-use std::alloc::Global;
-
-// The whole number that an exponent is worth, with the sign before it.
-fn whole_exponent<'t>(
-    table: &Table<'t>,
-    at: u32,
-    sign: Option<Sign>,
-    written: &Expression<'t>,
-) -> Result<i8, ModelFault<'t>>
-    ensures { Gives same result (exponent_given table.now at sign (expr_of written.now)) }
-{
-    Ok(exponent_value(table, at, sign, written)?)
-}
 
 // An expression with the sign before it.
-fn signed_tree(alloc: Global, sign: Sign, tree: Tree) -> Result<Tree, NoMemory>
-    ensures { IfOk result (λ r. term_of r ≡ signed_term sign (term_of tree)) }
+fn signed_node(graph: &mut Graph<'_>, sign: Sign, operand: NodeId) -> Result<NodeId, NoMemory>
+    requires { operand < length graph.old.terms }
+    ensures says { IfOk result (λ id. Says graph.new id (signed_term sign (term_at graph.old.terms operand))) }
+    ensures kept { Keeps graph.old graph.new }
 {
     match sign {
-        Sign::Plus => Ok(tree),
-        Sign::Minus => Ok(Tree::Neg(boxed(alloc, tree)?)),
+        Sign::Plus => Ok(operand),
+        Sign::Minus => graph.intern(NodeOp::Neg, &[operand]),
     }
 }
 
-// Two operands joined by their operator.
-fn joined_tree(alloc: Global, op: Operator, left: Tree, right: Tree) -> Result<Tree, NoMemory>
-    ensures { IfOk result (λ r. term_of r ≡ binary (binary_of op) (term_of left) (term_of right)) }
+// The operator between two operands.
+fn joining(op: Operator) -> BinaryOp
+    ensures { shown.binary_of result ≡ binary_of op }
 {
-    let left = boxed(alloc, left)?;
-    let right = boxed(alloc, right)?;
-    Ok(match op {
-        Operator::Plus => Tree::Add(left, right),
-        Operator::Minus => Tree::Sub(left, right),
-        Operator::Times => Tree::Mul(left, right),
-        Operator::Over => Tree::Div(left, right),
-    })
+    match op {
+        Operator::Plus => BinaryOp::Add,
+        Operator::Minus => BinaryOp::Sub,
+        Operator::Times => BinaryOp::Mul,
+        Operator::Over => BinaryOp::Div,
+    }
 }
 
-fn called_tree(
-    alloc: Global,
-    function: Function,
-    first: Tree,
-    second: Tree,
-) -> Result<Tree, NoMemory>
-    ensures { IfOk result (λ r. term_of r ≡ binary (binary_called function) (term_of first) (term_of second)) }
+// The operator that a function is.
+fn calling(function: Function) -> BinaryOp
+    ensures { shown.binary_of result ≡ binary_called function }
 {
-    let first = boxed(alloc, first)?;
-    let second = boxed(alloc, second)?;
-    Ok(match function {
-        Function::Min => Tree::Min(first, second),
-        Function::Max => Tree::Max(first, second),
-    })
+    match function {
+        Function::Min => BinaryOp::Min,
+        Function::Max => BinaryOp::Max,
+    }
 }
 
-fn power_tree(alloc: Global, base: Tree, exponent: i8) -> Result<Tree, NoMemory>
-    ensures { IfOk result (λ r. term_of r ≡ power_of (term_of base) exponent) }
+// The power of a base.
+fn power_node(graph: &mut Graph<'_>, base: NodeId, exponent: i8) -> Result<NodeId, NoMemory>
+    requires within { base < length graph.old.terms }
+    requires near { unsigned_abs exponent ≤ 16 }
+    ensures says { IfOk result (λ id. Says graph.new id (power_of (term_at graph.old.terms base) exponent)) }
+    ensures kept { Keeps graph.old graph.new }
 {
-    Ok(Tree::Pow(boxed(alloc, base)?, exponent))
+    graph.intern(NodeOp::Pow(exponent), &[base])
 }
 
-// The tree of an expression.
+/// The node of an expression, where a name has its number among the names of the graph, and exponents are taken in text
+/// order. After a fault the graph may have grown.
 #[cycle(builder)]
-pub(crate) fn tree_of<'t>(
-    alloc: Global,
+pub fn node_of<'t>(
+    graph: &mut Graph<'t>,
     expression: &Expression<'t>,
-    names: &Names<'t>,
-    table: &Table<'t>,
-) -> Result<Tree, ModelFault<'t>>
-    ensures { Gives term_of result (term_given names.now table.now (expr_of expression.now)) }
+    exponents: &mut Exponents<'_>,
+) -> Result<NodeId, ModelFault<'t>>
+    ensures node { Gives (λ id. (term_at graph.new.terms id, exponents.new)) result (term_from graph.old.names (expr_of expression.now) exponents.old) }
+    ensures within { IfOk result (λ id. id < length graph.new.terms) }
+    ensures kept { Keeps graph.old graph.new }
 {
     match expression {
-        Expression::Number { literal, at } => number_tree(literal, *at),
-        Expression::Variable { name } => name_tree(*name, None, names),
-        Expression::Shifted { name, shift } => name_tree(*name, Some(*shift.get()), names),
+        Expression::Number { literal, at } => number_node(graph, literal, *at),
+        Expression::Variable { name } => name_node(graph, *name, None),
+        Expression::Shifted { name, shift } => name_node(graph, *name, Some(*shift.get())),
         Expression::Signed { sign, operand } => {
-            let operand = tree_of(alloc, operand.get(), names, table)?;
-            Ok(signed_tree(alloc, *sign, operand)?)
+            let operand = node_of(graph, operand.get(), exponents)?;
+            Ok(signed_node(graph, *sign, operand)?)
         }
         Expression::Chain { first, more } => {
-            let first = tree_of(alloc, first.get(), names, table)?;
-            further_tree(alloc, more.as_slice(), first, names, table)
+            let first = node_of(graph, first.get(), exponents)?;
+            further_node(graph, first, more.as_slice(), exponents)
         }
-        Expression::Power {
-            base,
-            at,
-            sign,
-            exponent,
-        } => {
-            let base = tree_of(alloc, base.get(), names, table)?;
-            let exponent = whole_exponent(table, *at, *sign, exponent.get())?;
-            Ok(power_tree(alloc, base, exponent)?)
+        Expression::Power { base, .. } => {
+            let base = node_of(graph, base.get(), exponents)?;
+            Ok(power_node(graph, base, exponents.next())?)
         }
-        Expression::Paren { inside } => tree_of(alloc, inside.get(), names, table),
+        Expression::Paren { inside } => node_of(graph, inside.get(), exponents),
         Expression::Call {
             function,
             first,
             second,
         } => {
-            let first = tree_of(alloc, first.get(), names, table)?;
-            let second = tree_of(alloc, second.get(), names, table)?;
-            Ok(called_tree(alloc, *function, first, second)?)
+            let first = node_of(graph, first.get(), exponents)?;
+            let second = node_of(graph, second.get(), exponents)?;
+            let op = NodeOp::Binary(calling(*function));
+            Ok(graph.intern(op, &[first, second])?)
         }
     }
 }
 
 // These operands joined to a first one, from left to right.
 #[cycle(builder)]
-fn further_tree<'t>(
-    alloc: Global,
+fn further_node<'t>(
+    graph: &mut Graph<'t>,
+    first: NodeId,
     more: &[Further<'t>],
-    first: Tree,
-    names: &Names<'t>,
-    table: &Table<'t>,
-) -> Result<Tree, ModelFault<'t>>
-    ensures { Gives term_of result (chained (λ e. term_given names.now table.now e) joined_term (term_of first) (map further_of more.now)) }
+    exponents: &mut Exponents<'_>,
+) -> Result<NodeId, ModelFault<'t>>
+    requires { first < length graph.old.terms }
+    ensures node { Gives (λ id. (term_at graph.new.terms id, exponents.new)) result (further_from graph.old.names (term_at graph.old.terms first) (map further_of more.now) exponents.old) }
+    ensures within { IfOk result (λ id. id < length graph.new.terms) }
+    ensures kept { Keeps graph.old graph.new }
 {
-    let mut tree = first;
+    let mut node = first;
     'turns: for next in more {
-        let operand = tree_of(alloc, &next.operand, names, table)?;
-        tree = joined_tree(alloc, next.op, tree, operand)?;
+        let operand = node_of(graph, &next.operand, exponents)?;
+        node = graph.intern(NodeOp::Binary(joining(next.op)), &[node, operand])?;
     }
-    Ok(tree)
+    Ok(node)
 }

@@ -5,7 +5,7 @@ ghost use Rattle.mp_frac.specs.Limit.{limit};
 ghost use Rattle.mp_fold.specs.Reported.{fraction_of};
 
 use mp_base::{DataRefusal, NoMemory, Reduced};
-use mp_fold::{FoldFault, Name};
+use mp_fold::Name;
 use thiserror::Error;
 
 /// Why a file has no model: a name has no value; or a number is refused, with its place and two numbers that say why; or
@@ -28,20 +28,6 @@ impl<'t> From<NoMemory> for ModelFault<'t> {
 
     fn from(_: NoMemory) -> Self {
         ModelFault::NoMemory
-    }
-}
-
-impl<'t> From<FoldFault<'t>> for ModelFault<'t> {
-    ghost use Rattle.std.specs.Prelude.{◌≡◌};
-    ghost use Rattle.mp_trees.specs.Faults.{fault_of};
-
-    ghost from_gives = { λ f e. e ≡ fault_of f };
-
-    fn from(fault: FoldFault<'t>) -> Self {
-        match fault {
-            FoldFault::Unvalued { name } => ModelFault::Unvalued { name },
-            FoldFault::Refused(refused) => ModelFault::Refused(refused),
-        }
     }
 }
 

@@ -1,54 +1,48 @@
 // The model of a file.
-ghost use Rattle.std.specs.Prelude.{◌≡◌, [], ◌∷◌, ◌++◌, ◌<◌, Some, length, slice_get, map, OnOk, IfOk};
+ghost use Rattle.std.specs.Prelude.{◌≡◌, [], ◌∷◌, ◌++◌, ◌<◌, Some, Ok, length, slice_get, map, OnOk};
 ghost use Rattle.mp_file.specs.Shown.{file_of};
-ghost use Rattle.mp_model_data.specs.Shown.{parameter_of, equation_of, model_data};
+ghost use Rattle.mp_statements.specs.Parts.{equations_of};
+ghost use Rattle.mp_model_data.specs.Shown.{parameter_of, model_data};
 ghost use Rattle.mp_values.specs.Names.{names_of};
 ghost use Rattle.mp_names.specs.Entry.{entry_of};
-ghost use Rattle.mp_values.specs.ModelOf.{model_with, parameters_given};
+ghost use Rattle.mp_values.specs.Values.{values_given};
+ghost use Rattle.mp_values.specs.Exponents.{all_exponents};
+ghost use Rattle.mp_values.specs.ModelOf.{parameters_given};
 ghost use Rattle.mp_trees.specs.Gives.{Gives};
 ghost use Rattle.mp_trees.specs.Parts.{model_at, parameter_given};
 
 use crate::equation::sides_of_file;
+use crate::exponents::Exponents;
 use crate::fault::ModelFault;
 use mp_base::NoMemory;
 use mp_file::File;
-use mp_fold::Name;
-use mp_model_data::{Model, Parameter, Sides};
+use mp_fold::{Exponent, Name};
+use mp_graph::Graph;
+use mp_model_data::{Model, Parameter};
 use mp_names::{Entry, Names, Table};
-use mp_statements::NameKind;
 use std::alloc::{AllocError, Global};
 
-/// The model of a file that declares these names, where its parameters have these values at last: first each parameter
-/// needs its value, then each equation its trees, both in text order. The first that is refused is the fault.
+/// The model of a file that declares these names, where its parameters have these values at last, and the exponents of
+/// its equations are these: first each parameter needs its value, then each equation its nodes, both in text order. The
+/// first that is refused is the fault.
 pub fn model<'t>(
     alloc: Global,
     file: &File<'t>,
-    names: &Names<'t>,
+    names: Names<'t>,
     table: &Table<'t>,
+    exponents: &[Exponent],
 ) -> Result<Model<'t>, ModelFault<'t>>
-    requires names { names.now ≡ names_of (file_of file.now) }
+    requires names { names ≡ names_of (file_of file.now) }
+    requires values { values_given (file_of file.now) ≡ Ok table.now }
+    requires exponents { all_exponents table.now (equations_of (file_of file.now)) ≡ Ok exponents.now }
     ensures { Gives model_data result (model_at (file_of file.now) table.now) }
 {
+    mp_values::exponents_law();
     let parameters = parameters_of(alloc, table)?;
-    let equations = sides_of_file(alloc, file, names, table)?;
-    Ok(assembled(alloc, names, parameters, equations)?)
-}
-
-// The model of these names, parameters and equations.
-fn assembled<'t>(
-    alloc: Global,
-    names: &Names<'t>,
-    parameters: Vec<Parameter<'t>>,
-    equations: Vec<Sides>,
-) -> Result<Model<'t>, NoMemory>
-    ensures { IfOk result (λ r. model_data r ≡ model_with names.now (map parameter_of parameters.entry.items) (map equation_of equations.items)) }
-{
-    let endogenous = names
-        .of_kind(NameKind::Endogenous)
-        .as_slice()
-        .to_vec(alloc)?;
-    let exogenous = names.of_kind(NameKind::Exogenous).as_slice().to_vec(alloc)?;
-    Ok(Model::new(endogenous, exogenous, parameters, equations))
+    let mut graph = Graph::new(alloc, names);
+    let mut exponents = Exponents::of(exponents);
+    let equations = sides_of_file(alloc, &mut graph, file, &mut exponents)?;
+    Ok(Model::new(graph, parameters, equations))
 }
 
 // The parameters with their values.

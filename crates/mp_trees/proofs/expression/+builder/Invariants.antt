@@ -1,9 +1,12 @@
-use Rattle.std.proofs.Common.{◌≡◌, map, drop}
+use Rattle.std.proofs.Common.{◌≡◌, ◌<◌, length, map, drop}
 use Rattle.mp_file.specs.Shown.{further_of}
-use Rattle.mp_expr.specs.Shown.{term_of}
-use Rattle.mp_trees.proofs.Chains.{from_here}
+use Rattle.mp_graph.specs.Shared.{term_at, Keeps}
+use Rattle.mp_trees.specs.Parts.{further_from}
 use Rattle.mp_trees.proofs.expression.+builder.Given as goal
 
-abbrev pub invariant-further_tree-turns : goal.invariant-further_tree-turns
-invariant-further_tree-turns l =
-    from_here l.names l.table (term_of l.tree) (map further_of (drop l.next-index l.more)) ≡ from_here l.names l.table (term_of l.fn.first) (map further_of l.more)
+abbrev pub invariant-further_node-turns : goal.invariant-further_node-turns
+invariant-further_node-turns l = record {
+  kept : Keeps l.initial.graph l.graph;
+  within : l.node < length l.graph.terms;
+  node : further_from l.initial.graph.names (term_at l.graph.terms l.node) (map further_of (drop l.next-index l.more)) l.exponents ≡ further_from l.initial.graph.names (term_at l.initial.graph.terms l.fn.first) (map further_of l.more) l.initial.exponents;
+}

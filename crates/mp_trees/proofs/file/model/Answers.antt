@@ -1,27 +1,48 @@
-use Rattle.std.proofs.Common.{◌≡◌, Ok, sym, ap}
+use Rattle.std.proofs.Common.{map, Ok, sym, ap, ◌∙◌}
 use Rattle.std.proofs.lemmas.Result.{err_from_is_err_and}
 use Rattle.mp_file.specs.Shown.{file_of}
 use Rattle.mp_statements.specs.Parts.{equations_of}
-use Rattle.mp_values.specs.Names.{Names}
-use Rattle.mp_values.specs.Limits.{◌>>=◌}
-use Rattle.mp_values.specs.ModelOf.{each, equation_given, parameters_given, model_with}
-use Rattle.mp_trees.specs.Parts.{model_at}
+use Rattle.mp_graph.specs.Shared.{Shared}
+use Rattle.mp_model_data.specs.Shown.{Held, parameter_of, model_data}
+use Rattle.mp_values.specs.Names.{Names, names_of}
+use Rattle.mp_values.specs.ModelOf.{equations_given}
 use Rattle.mp_trees.proofs.Bound.{Fails-bind}
+use Rattle.mp_trees.proofs.Parameters.{parameters_named}
+use Rattle.mp_trees.proofs.Whole.{equations_fail, equations_are, model_is}
 use Rattle.mp_trees.proofs.file.model.Goals as goal
 
 pub returns-in_err-equations : goal.returns-in_err-equations
 returns-in_err-equations c =
     let file = file_of c.args.file.now in
     let t = c.args.table.now in
-    let of = λ (ns : Names). parameters_given t >>= λ ps. each (equation_given ns t) (equations_of file) >>= λ es. Ok (model_with ns ps es) in
-    let same : model_at file t ≡ of c.args.names.now = ap of (sym c.requires.names) in
+    let items = equations_of file in
+    let named = ap (λ (g : Shared). g.names) c.new-graph.ensures ∙ c.requires.names in
+    let law = c.exponents_law.ensures (names_of file) t items c.args.exponents.now c.requires.exponents in
+    let e = c.in_err-equations.field-0.0 in
     let p = err_from_is_err_and c.from_residual-in_err-equations.result c.from_residual-in_err-equations.ensures.1 in
-    rw (p.1, p.2, same, c.in_ok-parameters.ensures) (Fails-bind _ (each (equation_given c.args.names.now t) (equations_of file)) _ c.in_err-equations.ensures)
+    rw (p.1, p.2, c.in_ok-parameters.ensures)
+    (Fails-bind e (equations_given file t) _ (equations_fail _ _ items _ _ (equations_given file t) named c.of-exponents.ensures law e c.in_err-equations.ensures.sides))
+
+pub new-requires-clause-named : goal.new-requires-clause-named
+new-requires-clause-named c =
+    let file = file_of c.args.file.now in
+    let named = ap (λ (g : Shared). g.names) c.new-graph.ensures ∙ c.requires.names in
+    parameters_named file c.args.table.now _ c.requires.values c.in_ok-parameters.ensures
+    ∙ sym (ap (λ (n : Names). n.parameters) (c.in_ok-equations.ensures.kept.names ∙ named))
 
 pub returns : goal.returns
 returns c =
     let file = file_of c.args.file.now in
     let t = c.args.table.now in
-    let of = λ (ns : Names). parameters_given t >>= λ ps. each (equation_given ns t) (equations_of file) >>= λ es. Ok (model_with ns ps es) in
-    let same : model_at file t ≡ of c.args.names.now = ap of (sym c.requires.names) in
-    rw (same, c.in_ok-parameters.ensures, c.in_ok-equations.ensures) (ap Ok (sym c.in_ok-assembled.ensures))
+    let items = equations_of file in
+    let named = ap (λ (g : Shared). g.names) c.new-graph.ensures ∙ c.requires.names in
+    let law = c.exponents_law.ensures (names_of file) t items c.args.exponents.now c.requires.exponents in
+    let h : Held = record {
+      graph = c.sides_of_file.new.graph;
+      parameters = map parameter_of c.in_ok-parameters.parameters.items;
+      equations = c.in_ok-equations.equations.items;
+    } in
+    model_is file t h c.in_ok-parameters.ensures
+    (equations_are _ _ items _ _ (equations_given file t) named c.of-exponents.ensures law _ _ c.in_ok-equations.ensures.sides)
+    (c.in_ok-equations.ensures.kept.names ∙ named)
+    ∙ ap (λ (x : Held). Ok (model_data x)) (sym c.new.ensures)
