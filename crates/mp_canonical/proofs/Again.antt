@@ -5,18 +5,18 @@ use Rattle.mp_syntax.specs.Syntax.{Named}
 use Rattle.mp_statements.specs.declared.kind.NameKind.{NameKind}
 use Rattle.mp_statements.specs.declared.kind.NameKind.TheVariants as kind
 use Rattle.mp_semantics.specs.Model as m
-use Rattle.mp_values.specs.Table.{Table, unset}
+use Rattle.mp_values.specs.Table.{Table}
 use Rattle.mp_values.specs.Names.{Names}
 use Rattle.mp_values.specs.Limits.{Folded, ◌>>=◌, answer, exact}
-use Rattle.mp_values.specs.ModelOf.{term_by, equation, equation_by, each, parameters_given, model_with, model_by, model_of}
+use Rattle.mp_values.specs.ModelOf.{term_by, equation, equation_by, each, parameters_given, model_with, model_of}
 use Rattle.mp_canonical.specs.Terms.{unplaced, canonical}
-use Rattle.mp_canonical.specs.Contents.{Contents, nothing, joined, declared_names, contents_in, contents_of}
+use Rattle.mp_canonical.specs.Contents.{Contents, joined, declared_names, contents_in, contents_of}
 use Rattle.mp_canonical.specs.Files.{names_part, value_part, equation_part, equations_part, canonical_file}
 use Rattle.mp_canonical.specs.Printable.{model_names, IsPrintableEquation, IsPrintable}
-use Rattle.mp_canonical.proofs.Contents.{same_contents, both_parts, contents_names, assigned_all, contents_model, model-told}
+use Rattle.mp_canonical.proofs.Contents.{same_contents, both_parts, contents_model, model-told}
 use Rattle.mp_canonical.proofs.Results.{then}
 use Rattle.mp_canonical.proofs.Values.{Ratios}
-use Rattle.mp_canonical.proofs.Tables.{assignment, Left, values_again}
+use Rattle.mp_canonical.proofs.Tables.{assignment, values_again}
 use Rattle.mp_canonical.proofs.Terms.{term_back}
 
 -- ---- what each part holds

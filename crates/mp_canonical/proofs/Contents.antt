@@ -1,8 +1,6 @@
 -- Contents of files that are joined, and that a file's contents tell its model.
-use Rattle.std.proofs.Common.{◌≡◌, ℕ, List, [], ◌∷◌, ◌++◌, map, cond, Bool, true, false, Option, Some, Ok, Err, refl, sym, ap, ◌∙◌, append-nil, append_assoc}
-use Rattle.mp_rational.specs.Fraction.{Fraction}
+use Rattle.std.proofs.Common.{◌≡◌, ℕ, List, [], ◌∷◌, ◌++◌, map, Some, Ok, Err, refl, sym, ap, ◌∙◌, append_assoc}
 use Rattle.mp_syntax.specs.Syntax.{Named, Expr}
-use Rattle.mp_statements.specs.declared.kind.NameKind.{NameKind}
 use Rattle.mp_statements.specs.declared.kind.NameKind.TheVariants as kind
 use Rattle.mp_statements.specs.Statements.{Item, Statement, Declares, Assigns, Model}
 use Rattle.mp_statements.specs.Parts.{names_in, items_in, equations_of}
@@ -13,7 +11,7 @@ use Rattle.mp_values.specs.Names.{Names, names_of}
 use Rattle.mp_values.specs.Limits.{Folded, ◌>>=◌, Limits}
 use Rattle.mp_values.specs.Values.{value_by, assigned_by}
 use Rattle.mp_values.specs.ModelOf.{equation_by, each, parameters_given, model_with, model_by}
-use Rattle.mp_canonical.specs.Contents.{Contents, nothing, joined, declared_names, contents_in, contents_of}
+use Rattle.mp_canonical.specs.Contents.{Contents, joined, contents_in, contents_of}
 
 -- ---- joined files
 

@@ -1,5 +1,5 @@
 -- The names that a file declares are NAMEs.
-use Rattle.std.proofs.Common.{◌≡◌, ℕ, List, [], ◌∷◌, ◌++◌, map}
+use Rattle.std.proofs.Common.{ℕ, List, [], ◌∷◌, ◌++◌, map}
 use Rattle.std.specs.List.{AllByRecursion}
 use Rattle.mp_syntax.specs.Syntax.{Named}
 use Rattle.mp_statements.specs.declared.kind.NameKind.TheVariants as kind

@@ -1,5 +1,5 @@
 -- The file of a model is one that a text may write.
-use Rattle.std.proofs.Common.{◌≡◌, ℕ, zero, suc, ◌+◌, ℤ, pos, negsuc, max, ◌≤◌, ◌<◌, List, [], ◌∷◌, ◌++◌, length, map, Bool, true, false, cond, ◌||◌, ◌&&◌, ◌==◌, not, nat_lt, Option, Some, None, refl, sym, ap, ◌∙◌, subst, arith, le_trans}
+use Rattle.std.proofs.Common.{◌≡◌, ℕ, zero, suc, ℤ, pos, negsuc, ◌≤◌, ◌<◌, List, [], ◌∷◌, ◌++◌, map, Bool, true, false, cond, ◌||◌, ◌==◌, nat_lt, refl, arith}
 use Rattle.std.specs.List.{AllByRecursion}
 use Rattle.mp_rational.specs.Fraction.{Fraction}
 use Rattle.mp_rational.specs.Lowest.{numerator, denominator}
@@ -8,16 +8,15 @@ use Rattle.mp_syntax.specs.Syntax.{Shift, Named, Expr}
 use Rattle.mp_syntax.specs.Syntax as expr
 use Rattle.mp_statements.specs.declared.kind.NameKind.{NameKind}
 use Rattle.mp_statements.specs.declared.kind.NameKind.TheVariants as kind
-use Rattle.mp_statements.specs.Statements.{Item, Statement}
 use Rattle.mp_semantics.specs.Term.{Leaf, number, parameter, variable, steady_state, Binary, plus, minus, times, quotient, least, greatest, Term, leaf, negative, binary, power_of, pick}
 use Rattle.mp_semantics.specs.Model as m
-use Rattle.mp_format.specs.Pieces.{IsName, IsLiteral, AreDigits}
+use Rattle.mp_format.specs.Pieces.{IsName}
 use Rattle.mp_format.specs.Spelling.{FitsAll}
-use Rattle.mp_expressions.specs.InForm.{AtPower, AtFactor, AtProduct, AtSum, IsShift, Flat, Deep, InForm}
+use Rattle.mp_expressions.specs.InForm.{AtPower, AtFactor, AtProduct, AtSum, IsShift, Deep, InForm}
 use Rattle.mp_grammar.specs.Statements.{IsExpression, IsNamed, IsItem, IsStatement, IsFile}
 use Rattle.mp_values.specs.Names.{Names}
 use Rattle.mp_canonical.specs.Numbers.{decimal_digits}
-use Rattle.mp_canonical.specs.Terms.{level, operator_level, is_infix, is_loose, is_loose_right, begins_minus, fenced, operation, unplaced, canonical_shift, canonical_leaf, canonical_whole, canonical_exponent, canonical, canonical_value}
+use Rattle.mp_canonical.specs.Terms.{level, operator_level, is_loose, is_loose_right, begins_minus, fenced, operation, unplaced, canonical_shift, canonical_leaf, canonical_whole, canonical_exponent, canonical, canonical_value}
 use Rattle.mp_canonical.specs.Printable.{model_names, IsPrintableLeaf, IsPrintableTerm, term_height, IsPrintableSide, IsPrintableEquation, IsPrintable}
 use Rattle.mp_canonical.specs.Files.{names_part, value_part, equation_part, equations_part, canonical_file}
 use Rattle.mp_canonical.proofs.Numbers.{text_is_literal, digits_are}

@@ -1,10 +1,8 @@
 -- The lines of the parts of a model's file.
-use Rattle.std.proofs.Common.{◌≡◌, ℕ, ◌<◌, List, [], ◌∷◌, ◌++◌, length, map, flat_map, codes, refl, sym, ap, ◌∙◌, arith, append-nil, append_assoc}
+use Rattle.std.proofs.Common.{◌≡◌, ℕ, ◌<◌, List, [], ◌∷◌, ◌++◌, length, map, flat_map, codes, ap, ◌∙◌, arith, append-nil}
 use Rattle.std.proofs.lemmas.List.Concat.{flat_map-append}
-use Rattle.mp_syntax.specs.Syntax.{Named, Expr}
 use Rattle.mp_statements.specs.declared.kind.NameKind.{NameKind}
 use Rattle.mp_statements.specs.declared.kind.NameKind.TheVariants as kind
-use Rattle.mp_statements.specs.Statements.{Statement}
 use Rattle.mp_semantics.specs.Model as m
 use Rattle.mp_values.specs.Names.{Names}
 use Rattle.mp_canonical.specs.Terms.{unplaced, canonical, canonical_value}

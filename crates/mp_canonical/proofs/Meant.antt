@@ -1,5 +1,5 @@
 -- A term that an expression means is one that a text can write, and as high.
-use Rattle.std.proofs.Common.{◌≡◌, ℕ, ◌+◌, max, ℤ, List, Option, Some, Ok, refl, sym, ap, ◌∙◌, subst}
+use Rattle.std.proofs.Common.{◌≡◌, ℕ, ◌+◌, max, Ok, refl, ap, ◌∙◌, subst}
 use Rattle.mp_syntax.specs.declared.operator.Sign.{Sign}
 use Rattle.mp_syntax.specs.declared.operator.Sign.TheVariants as sign
 use Rattle.mp_syntax.specs.Syntax.{Expr, Number, Variable, Signed, Binary, Power, Paren, Call}
@@ -8,8 +8,8 @@ use Rattle.mp_semantics.specs.Term as term
 use Rattle.mp_semantics.specs.Term.{Term}
 use Rattle.mp_declared.specs.Heights.{signed_height, height}
 use Rattle.mp_values.specs.Table.{Table}
-use Rattle.mp_values.specs.Names.{Names, named_term, shift_of}
-use Rattle.mp_values.specs.Limits.{Folded, ◌>>=◌, known, exact, binary_of}
+use Rattle.mp_values.specs.Names.{Names, shift_of}
+use Rattle.mp_values.specs.Limits.{Folded, ◌>>=◌, exact, binary_of}
 use Rattle.mp_values.specs.Values.{value_by, exponent_at}
 use Rattle.mp_values.specs.ModelOf.{number_by, signed_term, binary_called, term_by}
 use Rattle.mp_canonical.specs.Printable.{IsPrintableTerm, term_height}

@@ -1,5 +1,5 @@
 -- What a file means does not depend on places.
-use Rattle.std.proofs.Common.{◌≡◌, ℕ, ℤ, List, [], ◌∷◌, ◌++◌, map, cond, Option, Some, None, option_map, Ok, Err, refl, sym, ap, ◌∙◌, subst}
+use Rattle.std.proofs.Common.{◌≡◌, ℕ, ℤ, List, [], ◌∷◌, ◌++◌, map, cond, Option, Some, None, option_map, Ok, Err, refl, sym, ap, ◌∙◌}
 use Rattle.std.proofs.lemmas.List.{map-append}
 use Rattle.mp_rational.specs.Fraction.{Fraction}
 use Rattle.mp_statements.specs.declared.kind.NameKind.{NameKind}
@@ -9,7 +9,6 @@ use Rattle.mp_syntax.specs.Syntax.{Named, Expr, Number, Variable, Signed, Binary
 use Rattle.mp_statements.specs.Statements.{Item, Statement, Declares, Assigns, Model}
 use Rattle.mp_statements.specs.Parts.{is_kind, names_in, items_in, equations_of}
 use Rattle.mp_statements.specs.Parts as parts
-use Rattle.mp_semantics.specs.Term as term
 use Rattle.mp_semantics.specs.Value.{result_of}
 use Rattle.mp_semantics.specs.Model as m
 use Rattle.mp_expressions.specs.Script.{bare_name, bare}
@@ -17,8 +16,8 @@ use Rattle.mp_grammar.specs.Statements.{bare_item, bare_statement, bare_file}
 use Rattle.mp_values.specs.Table.{Table, unset, with_value}
 use Rattle.mp_values.specs.Names.{Names, names_of}
 use Rattle.mp_values.specs.Limits.{Folded, ◌>>=◌, answer, exact, exponent_or, whole_of, defined, binary_of}
-use Rattle.mp_values.specs.Values.{with_sign, with_sign_if, chosen, exponent_at, value_by, assigned_by, values_by}
-use Rattle.mp_values.specs.ModelOf.{signed_term, binary_called, term_by, right_by, equation, equation_by, each, parameters_given, model_with, model_by, model_of}
+use Rattle.mp_values.specs.Values.{with_sign_if, exponent_at, value_by, assigned_by, values_by}
+use Rattle.mp_values.specs.ModelOf.{term_by, right_by, equation_by, each, parameters_given, model_with, model_of}
 use Rattle.mp_canonical.proofs.Results.{some_is}
 
 -- ---- the same answer, or none

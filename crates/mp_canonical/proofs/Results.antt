@@ -1,5 +1,5 @@
 -- What there is, taken apart and put together.
-use Rattle.std.proofs.Common.{◌≡◌, List, [], ◌∷◌, Option, Some, None, Result, Ok, Err, refl, ap, ◌∙◌}
+use Rattle.std.proofs.Common.{◌≡◌, List, Option, Some, None, Ok, Err, refl, ap}
 use Rattle.mp_values.specs.Limits.{Folded, ◌>>=◌, known}
 
 pub ok_is : {A : Type 0} (x y : A) → (let u : Folded A = Ok x in u ≡ Ok y) → x ≡ y

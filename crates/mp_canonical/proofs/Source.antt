@@ -1,11 +1,10 @@
 -- The model that a file means is one that a text can write.
-use Rattle.std.proofs.Common.{◌≡◌, ℕ, ◌≤◌, max, List, [], ◌∷◌, ◌++◌, map, cond, Bool, true, false, bytes_eq, flat_map, Option, Some, None, Ok, Err, refl, sym, ap, ◌∙◌, subst, arith, le_trans, le_of_eq}
+use Rattle.std.proofs.Common.{◌≡◌, ℕ, ◌≤◌, max, List, [], ◌∷◌, map, flat_map, Option, Some, None, Ok, Err, refl, sym, ap, ◌∙◌, subst, arith, le_trans, le_of_eq}
 use Rattle.std.specs.List.{AllByRecursion}
 use Rattle.mp_rational.specs.Fraction.{Fraction, whole}
-use Rattle.std.specs.Prelude.{ℤ, pos}
+use Rattle.std.specs.Prelude.{pos}
 use Rattle.mp_syntax.specs.Syntax.{Expr}
 use Rattle.mp_statements.specs.Statements.{Item, Statement}
-use Rattle.mp_statements.specs.Parts.{equations_of}
 use Rattle.mp_semantics.specs.Term.{Term, leaf, number}
 use Rattle.mp_semantics.specs.Model as m
 use Rattle.mp_declared.specs.Sides.{right_side, sides}
@@ -16,8 +15,8 @@ use Rattle.mp_values.specs.Limits.{Folded, ◌>>=◌, known, answer, exact}
 use Rattle.mp_values.specs.Values.{value_by}
 use Rattle.mp_values.specs.ModelOf.{term_by, right_by, equation, equation_by, each, parameter_of, parameters_given, model_with, model_by, model_of}
 use Rattle.mp_canonical.specs.Contents.{Contents, contents_of}
-use Rattle.mp_canonical.specs.Printable.{term_height, IsPrintableTerm, IsPrintableSide, IsPrintableEquation, HaveValues, IsPrintable}
-use Rattle.mp_canonical.proofs.Results.{ok_is, some_is, before, known_is}
+use Rattle.mp_canonical.specs.Printable.{term_height, IsPrintableSide, IsPrintableEquation, HaveValues, IsPrintable}
+use Rattle.mp_canonical.proofs.Results.{ok_is, some_is, before}
 use Rattle.mp_canonical.proofs.Names.{AreNames}
 use Rattle.mp_canonical.proofs.Meant.{Meant, meant}
 use Rattle.mp_canonical.proofs.Tables.{Valuation, table, valued, with_value-table}

@@ -7,13 +7,13 @@ use Rattle.mp_format.specs.Pieces.{IsText, IsName}
 use Rattle.mp_format.specs.Format.{opt, empty}
 use Rattle.mp_format.specs.Spelling.{value, Fits, FitsOpt, opens, closes, spaced, text}
 use Rattle.mp_format.proofs.Bares.{Bares, both_bares, opt_bares}
-use Rattle.mp_format.proofs.Stands.{Stands, opt_stands, ap_two}
+use Rattle.mp_format.proofs.Stands.{Stands, ap_two}
 use Rattle.mp_format.proofs.TextLaws.{back}
 use Rattle.mp_expressions.specs.Productions.{Whole}
 use Rattle.mp_grammar.specs.Productions.{item}
 use Rattle.mp_grammar.specs.Levels.{expression}
-use Rattle.mp_grammar.specs.Statements.{bare_item, item_tree}
-use Rattle.mp_grammar.specs.Tags.{Tag, tag, further_tag, tags, bare_tag, IsTag, tag_tree, tags_tree}
+use Rattle.mp_grammar.specs.Statements.{bare_item}
+use Rattle.mp_grammar.specs.Tags.{tag, further_tag, tags, bare_tag, IsTag, tag_tree, tags_tree}
 use Rattle.mp_grammar.proofs.Tags.{tags_stand, tags_bares}
 use Rattle.mp_grammar.proofs.Trees.{item_stands}
 use Rattle.mp_grammar.proofs.Places.{expr_bares, item_bares}
@@ -73,11 +73,11 @@ tagged_back c is =
     (b.0, b.1, b.2, b.3, sym (tagged_bares _ b.1 b.4) ∙ ap bare_tagged h.value ∙ bare_again c)
 
 -- the text, with a name and without one
-pub tagged_line : (name : List ℕ) (x : Item) → tagged_text (Some name, x) ≡ codes "[name=" ++ (quoted name ++ (codes "]" ++ item_text x))
+pub tagged_line : (name : List ℕ) (x : Item) → tagged_text (Some name, x) ≡ codes "[name=" ++ (quoted name ++ (codes "] " ++ item_text x))
 unfolding text tags tag further_tag tags_tree tag_tree
 tagged_line name x =
     let ending = name ++ (quote_of name ∷ []) in
-    ap (λ l. codes "[name=" ++ (quote_of name ∷ ((l ++ codes "]") ++ item_text x))) (append-nil ending) ∙ ap (λ l. codes "[name=" ++ (quote_of name ∷ l)) (append_assoc ending (codes "]") (item_text x))
+    ap (λ l. codes "[name=" ++ (quote_of name ∷ ((l ++ codes "] ") ++ item_text x))) (append-nil ending) ∙ ap (λ l. codes "[name=" ++ (quote_of name ∷ l)) (append_assoc ending (codes "] ") (item_text x))
 
 pub bare_line : (x : Item) → tagged_text (None, x) ≡ item_text x
 unfolding text

@@ -1,5 +1,5 @@
 -- A canonical expression means its term.
-use Rattle.std.proofs.Common.{◌≡◌, ℕ, suc, ℤ, pos, Bool, true, false, nat_lt, Option, Some, None, Ok, Err, refl, ap, ◌∙◌}
+use Rattle.std.proofs.Common.{◌≡◌, pos, Bool, true, false, nat_lt, None, Ok, Err, ap, ◌∙◌}
 use Rattle.mp_syntax.specs.Syntax.{Expr}
 use Rattle.mp_semantics.specs.Term.{Leaf, number, parameter, variable, steady_state, Binary, plus, minus, times, quotient, least, greatest, Term, leaf, negative, binary, power_of, pick}
 use Rattle.mp_values.specs.Table.{Table}

@@ -1,8 +1,8 @@
 -- Models that a text can write.
-use Rattle.std.specs.Prelude.{◌≡◌, ℕ, zero, suc, ◌+◌, ◌%◌, ◌<◌, ◌≤◌, max, ℤ, List, [], map, Option, Some}
+use Rattle.std.specs.Prelude.{◌≡◌, ℕ, zero, suc, ◌+◌, ◌%◌, ◌<◌, ◌≤◌, max, ℤ, List, [], map, Some}
 use Rattle.std.specs.List.{AllByRecursion}
 use Rattle.mp_rational.specs.Fraction.{Fraction}
-use Rattle.mp_semantics.specs.Term.{Variable, Leaf, number, parameter, variable, steady_state, Binary, Term, leaf, negative, binary, power_of, pick}
+use Rattle.mp_semantics.specs.Term.{Leaf, number, parameter, variable, steady_state, Term, leaf, negative, binary, power_of, pick}
 use Rattle.mp_semantics.specs.Model.{Model, Equation, Parameter}
 use Rattle.mp_format.specs.Pieces.{IsName}
 use Rattle.mp_values.specs.Names.{Names, named_term}

@@ -1,5 +1,5 @@
 -- Terms as expressions, with the fewest parentheses that the grammar's levels allow (modpath's own).
-use Rattle.std.specs.Prelude.{ℕ, zero, suc, ℤ, pos, negsuc, List, [], map, Bool, true, false, not, ◌&&◌, ◌||◌, ◌==◌, nat_lt, Option, Some, None, if◌then◌else◌, slice_index_or}
+use Rattle.std.specs.Prelude.{ℕ, zero, suc, ℤ, pos, negsuc, List, [], Bool, true, false, not, ◌&&◌, ◌||◌, ◌==◌, nat_lt, Option, Some, None, if◌then◌else◌, slice_index_or}
 use Rattle.mp_rational.specs.Fraction.{Fraction}
 use Rattle.mp_rational.specs.Lowest.{numerator, denominator}
 use Rattle.mp_syntax.specs.declared.operator.Sign.TheVariants as sign

@@ -41,6 +41,6 @@ pub fn places_law()
 /// own).
 pub fn tag_law()
     ensures back { (room : ℕ) (ns : Names) (name : Option (List ℕ)) (e : Equation) → room ≤ 500 → IsPrintableEquation room ns e → FitsOpt IsTagName name → TagReadsBack (name, equation_part ns e) }
-    ensures with_name { (name : List ℕ) (x : Item) → tagged_text (Some name, x) ≡ codes "[name=" ++ (quoted name ++ (codes "]" ++ item_text x)) }
+    ensures with_name { (name : List ℕ) (x : Item) → tagged_text (Some name, x) ≡ codes "[name=" ++ (quoted name ++ (codes "] " ++ item_text x)) }
     ensures without { (x : Item) → tagged_text (None, x) ≡ item_text x }
 {}

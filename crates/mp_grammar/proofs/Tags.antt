@@ -54,7 +54,7 @@ called bytes = record { name = bytes; at = 7 }
 abbrev one_tenth : Expr
 one_tenth = Binary operator.Over (Number (codes "1") 3) 4 (Number (codes "10") 5)
 
-tags_written : text tags (tags_tree (record { name = called (codes "name"); text = codes "'a b'" } ∷ record { name = called (codes "bind"); text = codes "'A,B'" } ∷ [])) ≡ codes "[name='a b',bind='A,B']"
+tags_written : text tags (tags_tree (record { name = called (codes "name"); text = codes "'a b'" } ∷ record { name = called (codes "bind"); text = codes "'A,B'" } ∷ [])) ≡ codes "[name='a b',bind='A,B'] "
 unfolding text tags tag further_tag tags_tree tag_tree
 tags_written = refl
 

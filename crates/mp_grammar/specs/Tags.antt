@@ -3,7 +3,7 @@ use Rattle.std.specs.Prelude.{ℕ, List, [], ◌∷◌}
 use Rattle.mp_tokens.specs.declared.terminal.Terminal.TheVariants as t
 use Rattle.mp_syntax.specs.Syntax.{Named}
 use Rattle.mp_format.specs.Pieces.{IsText}
-use Rattle.mp_format.specs.Format.{Format, many}
+use Rattle.mp_format.specs.Format.{Of, Format, tok, many}
 use Rattle.mp_format.specs.Notation.{of, ◌⊗◌, ◌▸◌, ◌◂◌, ◌⇒◌}
 use Rattle.mp_format.specs.Spelling.{Tree, some_tree}
 use Rattle.mp_expressions.specs.Script.{bare_name}
@@ -23,9 +23,9 @@ tag = name ◂ of t.Equals ⊗ of t.Text ⇒ λ p. record { name = p.0; text = p
 unfoldable pub further_tag : Format Tag
 further_tag = of t.Comma ▸ tag
 
--- tags = "[" tag {"," tag} "]"
+-- tags = "[" tag {"," tag} "]", before an equation on the same line
 unfoldable pub tags : Format (List Tag)
-tags = of t.OpenBracket ▸ (tag ⊗ many further_tag ⇒ λ p. p.0 ∷ p.1) ◂ of t.CloseBracket
+tags = of t.OpenBracket ▸ (tag ⊗ many further_tag ⇒ λ p. p.0 ∷ p.1) ◂ tok (Of t.CloseBracket) (record { before = []; after = 32 ∷ [] })
 
 -- a tag without the place of its name
 abbrev pub bare_tag : Tag → Tag
