@@ -1,5 +1,5 @@
 -- A text whose refusal is of a token has tokens, and this is the first wrong one.
-use Rattle.std.proofs.Common.{◌≡◌, ℕ, suc, ◌-◌, List, [], ◌∷◌, length, drop, Option, Some, None, Result, Ok, Err, Bool, true, false, cond, nat_le, refl, sym, ap, ◌∙◌, subst, arith}
+use Rattle.std.proofs.Common.{◌≡◌, ℕ, suc, ℤ, ◌-◌, List, [], ◌∷◌, length, drop, Option, Some, None, Result, Ok, Err, Bool, true, false, cond, nat_le, refl, sym, ap, ◌∙◌, subst, arith}
 use Rattle.std.specs.Result.{MatchResult, IsErrAnd}
 use Rattle.mp_base.specs.declared.refusal.Refusal.{Refusal}
 use Rattle.mp_base.specs.declared.refusal.Refusal.TheVariants as o
@@ -76,7 +76,7 @@ declared_later end ts file =
     let powers : Table → Step Table = λ t. unless_stuck end (all_exponents t (equations_of file)) (λ _. Ok t) in
     fault_later (declared_fault end file) (unless_far (far_literal ts) (values_told end file)) (far_later (far_literal ts) (values_told end file) (after_stuck end (values_given file) powers (λ t. by t (all_exponents t (equations_of file)))))
   where
-    by : (t : Table) (u : Folded (Unit {0})) → Later (let r : Step Table = unless_stuck end u (λ _. Ok t) in r)
+    by : (t : Table) (u : Folded (List ℤ)) → Later (let r : Step Table = unless_stuck end u (λ _. Ok t) in r)
     by t (Ok x) = tt
     by t (Err s) = stuck_later end s
 
