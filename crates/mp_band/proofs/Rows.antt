@@ -1,5 +1,5 @@
 -- The lists of a system after a write, and the places of a band.
-use Rattle.std.proofs.Common.{◌≡◌, ℕ, ℤ, zero, suc, ◌+◌, ◌-◌, ◌*◌, ◌/◌, ◌^◌, ◌<◌, ◌≤◌, max, pos, List, [], map, length, get_or, set, replicate, Result, Ok, Err, Some, MatchResult, refl, ap, sym, ◌∙◌, subst, arith, ◌⊎◌, inl, inr, get_or-set_other, get_or-set_same}
+use Rattle.std.proofs.Common.{◌≡◌, ℕ, ℤ, zero, suc, ◌+◌, ◌-◌, ◌*◌, ◌/◌, ◌^◌, ◌<◌, ◌≤◌, pos, List, [], map, length, get_or, set, replicate, Result, Ok, Err, Some, MatchResult, refl, ap, sym, ◌∙◌, subst, arith, inl, inr, get_or-set_other, get_or-set_same}
 use Rattle.std.specs.Prelude.{slice_get, IsTrue, nat_le, ◌↔◌}
 use Rattle.std.specs.List.{range_with_len}
 use Rattle.std.proofs.Math.ListN.{length-set}
@@ -10,8 +10,7 @@ use Rattle.std.proofs.lemmas.List.{get_or-replicate, length-replicate}
 use Rattle.std.proofs.lemmas.Option.{slice_get-get_or}
 use Rattle.std.proofs.lemmas.List.FromFn.{fill_by_all, get_or-map-range_with_len, length-map-range_with_len}
 use Rattle.mp_elim.specs.declared.ElimFault.{ElimFault}
-use Rattle.mp_turns.specs.Turns.{and_then}
-use Rattle.mp_elim.specs.Elimination.{System, put, put_right, whole, solution, system, row_lists, column_list, IsWithin}
+use Rattle.mp_elim.specs.Elimination.{System, put, put_right, whole, solution, row_lists, column_list, IsWithin}
 use Rattle.mp_elim.specs.Shape.{IsTridiagonal, IsSquare}
 use Rattle.mp_elim.proofs.Zeros.{put_here, put_other}
 use Rattle.mp_elim.proofs.Lists.{system_again, solution_again}

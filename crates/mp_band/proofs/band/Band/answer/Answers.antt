@@ -1,4 +1,4 @@
-use Rattle.std.proofs.Common.{◌≡◌, ℤ, ap, sym, ◌∙◌, Some, Option}
+use Rattle.std.proofs.Common.{ℤ, ap, sym, ◌∙◌, Some}
 use Rattle.mp_sheet.specs.Layout.{system_of}
 use Rattle.mp_band.proofs.Rows.{row_kept, blocks_answer}
 use Rattle.mp_band.proofs.band.Band.answer.Goals as goal

@@ -1,4 +1,4 @@
-use Rattle.std.proofs.Common.{◌≡◌, ◌-◌}
+use Rattle.std.proofs.Common.{◌-◌}
 use Rattle.mp_sheet.specs.Layout.{system_of}
 use Rattle.mp_sheet.proofs.Places.{sheet_within}
 use Rattle.mp_band.proofs.Rows.{row_kept, right_blocks, right_shape}
