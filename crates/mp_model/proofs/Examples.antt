@@ -1,5 +1,5 @@
 -- The example of values, step by step.
-use Rattle.std.proofs.Common.{◌≡◌, ◌↔◌, ℕ, ◌*◌, ◌<◌, ℤ, pos, negsuc, ◌%◌, ◌+ℤ◌, ◌*ℤ◌, List, [], ◌∷◌, ◌++◌, cond, ◌==◌, Option, Some, None, Ok, IsTrue, IsFalse, codes, refl, ap, ◌∙◌, arith}
+use Rattle.std.proofs.Common.{◌≡◌, ◌↔◌, ℕ, ◌*◌, ◌<◌, ℤ, pos, ◌%◌, ◌+ℤ◌, ◌*ℤ◌, List, [], ◌∷◌, cond, ◌==◌, Option, Some, None, Ok, IsTrue, IsFalse, codes, refl, ap, ◌∙◌, arith}
 use Rattle.std.specs.Int.{IsGcd}
 use Rattle.std.specs.Int.RustNames.{unsigned_abs}
 use Rattle.std.proofs.lemmas.Bool.{false_from_ne_true}
@@ -8,20 +8,19 @@ use Rattle.mp_rational.specs.Fraction.{Fraction, add, mul, div, is_zero, ratio_o
 use Rattle.mp_rational.specs.Lowest.{numerator, denominator}
 use Rattle.mp_tokens.specs.Literals.{decimal_of}
 use Rattle.mp_syntax.specs.declared.operator.Operator.TheVariants as o
-use Rattle.mp_syntax.specs.Syntax.{Expr, Number, Binary}
-use Rattle.mp_statements.specs.Statements.{Assigns}
+use Rattle.mp_syntax.specs.Syntax.{Number, Binary}
 use Rattle.mp_semantics.specs.Term as term
 use Rattle.mp_semantics.specs.Term.{Term, endogenous, exogenous, number, variable, plus, times, leaf, power_of}
 use Rattle.mp_semantics.specs.Model as m
-use Rattle.mp_values.specs.Table.{Table, with_value}
+use Rattle.mp_values.specs.Table.{Table}
 use Rattle.mp_values.specs.Names as v
 use Rattle.mp_values.specs.Limits.{Folded, ◌>>=◌, answer, exact, exponent_or, whole_of, defined}
-use Rattle.mp_values.specs.Values.{exponent_at, value_by, assigned_by, values_by}
+use Rattle.mp_values.specs.Values.{value_by, values_by}
 use Rattle.mp_values.specs.ModelOf.{equation, equations_by, parameters_given, model_with, model_of}
 use Rattle.mp_canonical.specs.Terms.{canonical_whole, canonical_value}
 use Rattle.mp_canonical.specs.Numbers.{decimal_digits}
 use Rattle.mp_canonical.proofs.Results.{then}
-use Rattle.mp_model.specs.Example.{half, one_more, twice, values_file, doubled, values_model, values_printed}
+use Rattle.mp_model.specs.Example.{half, one_more, values_file, doubled, values_model}
 
 -- the laws of fractions that this needs
 pub record Ratios : Type 0 where

@@ -1,8 +1,8 @@
 -- The canonical text of the example of values.
-use Rattle.std.proofs.Common.{◌≡◌, ℕ, List, [], ◌∷◌, ◌++◌, refl, ap, ◌∙◌, codes}
+use Rattle.std.proofs.Common.{◌≡◌, ℕ, List, [], ◌∷◌, ◌++◌, ap, codes}
 use Rattle.mp_syntax.specs.Syntax.{Expr}
 use Rattle.mp_statements.specs.declared.kind.NameKind.TheVariants as kind
-use Rattle.mp_statements.specs.Statements.{Statement, Assigns}
+use Rattle.mp_statements.specs.Statements.{Assigns}
 use Rattle.mp_format.specs.Spelling.{text}
 use Rattle.mp_expressions.specs.Script.{expr_pieces}
 use Rattle.mp_grammar.specs.Productions.{declares, assigns, item, model, statement, statements}

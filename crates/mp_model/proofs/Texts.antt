@@ -1,5 +1,5 @@
 -- The text of the example of values, read as a file.
-use Rattle.std.proofs.Common.{◌≡◌, ℕ, List, [], ◌∷◌, drop, inl, inr, true, Option, Some, None, Result, Ok, Err, codes, refl, ◌∙◌}
+use Rattle.std.proofs.Common.{◌≡◌, ℕ, List, [], ◌∷◌, drop, inl, inr, true, Some, None, Result, Ok, Err, codes, refl, ◌∙◌}
 use Rattle.mp_tokens.specs.declared.token.TokenKind.{TokenKind}
 use Rattle.mp_tokens.specs.declared.token.TokenKind.TheVariants as k
 use Rattle.mp_tokens.specs.declared.terminal.Terminal.TheVariants as t

@@ -1,5 +1,5 @@
 -- The line of a declaration, of names and of none.
-use Rattle.std.proofs.Common.{◌≡◌, ℕ, List, [], ◌∷◌, ◌++◌, length, map, flat_map, true, false, ◌==◌, codes, refl, ap, ◌∙◌, arith, eqb-true}
+use Rattle.std.proofs.Common.{◌≡◌, List, [], ◌∷◌, ◌++◌, length, map, flat_map, true, false, ◌==◌, codes, refl, ap, ◌∙◌, arith, eqb-true}
 use Rattle.mp_syntax.specs.Syntax as s
 use Rattle.mp_statements.specs.declared.kind.NameKind.{NameKind}
 use Rattle.mp_statements.specs.declared.kind.NameKind.TheVariants as kind

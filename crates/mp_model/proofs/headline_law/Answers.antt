@@ -1,4 +1,4 @@
-use Rattle.std.proofs.Common.{◌≤◌, arith}
+use Rattle.std.proofs.Common.{arith}
 use Rattle.mp_canonical.specs.Files.{canonical_text}
 use Rattle.mp_grammar.proofs.TextForms.{text_form}
 use Rattle.mp_model.proofs.Kept.{keeps}
