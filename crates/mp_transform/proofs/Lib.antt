@@ -2,4 +2,5 @@ pub mod FarShifts
 pub mod Inverse
 pub mod Places
 pub mod ReadShifts
+pub mod Told
 pub mod WrongTokens

@@ -4,9 +4,11 @@ ghost use Rattle.std.specs.Prelude.{◌≡◌, ◌<◌, ◌≤◌, ◌-◌, ◌^
 ghost use Rattle.std.specs.Option.{ForSome};
 ghost use Rattle.mp_tokens.specs.Literals.{far_literal};
 ghost use Rattle.mp_file.specs.Shown.{file_of};
+ghost use Rattle.mp_statements.specs.Parts.{equations_of};
 ghost use Rattle.mp_declared.specs.Heights.{greatest_height};
 ghost use Rattle.mp_declared.specs.Shifts.{far_shift};
 ghost use Rattle.mp_values.specs.Names.{names_of};
+ghost use Rattle.mp_values.specs.Exponents.{all_exponents};
 ghost use Rattle.mp_values.specs.Values.{values_given};
 ghost use Rattle.mp_values.specs.ModelOf.{model_given};
 ghost use Rattle.mp_model_data.specs.Shown.{model_data};
@@ -72,7 +74,7 @@ fn tested<'t>(
     ensures shows { MatchResult result (λ _. Unit {0}) TextShows }
 {
     let declared = declared(alloc, tokens, file, end)?;
-    limited(alloc, file, &declared, end)
+    limited(alloc, file, declared, end)
 }
 
 // The model of a file that declares these names and values, with no shift and no side past the limits. The text ends at
@@ -80,11 +82,12 @@ fn tested<'t>(
 fn limited<'t>(
     alloc: Global,
     file: &File<'t>,
-    declared: &Declared<'t>,
+    declared: Declared<'t>,
     end: u32,
 ) -> Result<Model<'t>, Refusal>
-    requires names { declared.now.names ≡ names_of (file_of file.now) }
-    requires values { values_given (file_of file.now) ≡ Ok declared.now.values }
+    requires names { declared.names ≡ names_of (file_of file.now) }
+    requires values { values_given (file_of file.now) ≡ Ok declared.values }
+    requires exponents { all_exponents declared.values (equations_of (file_of file.now)) ≡ Ok declared.exponents.items }
     requires near { ForSome (far_shift (file_of file.now)) (λ x. x.1 ≤ 10 ^ 37) }
     requires low { greatest_height (file_of file.now) < 2 ^ 32 }
     ensures says { Says model_data (limited end (file_of file.now)) result }
@@ -105,6 +108,7 @@ fn declared<'t>(
     ensures says { Says (λ d. d.values) (declared_given end tokens.now (file_of file.now)) result }
     ensures names { IfOk result (λ d. d.names ≡ names_of (file_of file.now)) }
     ensures values { IfOk result (λ d. values_given (file_of file.now) ≡ Ok d.values) }
+    ensures exponents { IfOk result (λ d. all_exponents d.values (equations_of (file_of file.now)) ≡ Ok d.exponents.items) }
     ensures in_range { IfOk result (λ _. far_literal tokens.now ≡ None) }
     ensures shows { MatchResult result (λ _. Unit {0}) TextShows }
 {
@@ -155,15 +159,21 @@ fn not_deep(file: &File) -> Result<(), Refusal>
 fn model<'t>(
     alloc: Global,
     file: &File<'t>,
-    declared: &Declared<'t>,
+    declared: Declared<'t>,
     end: u32,
 ) -> Result<Model<'t>, Refusal>
-    requires names { declared.now.names ≡ names_of (file_of file.now) }
-    requires values { values_given (file_of file.now) ≡ Ok declared.now.values }
+    requires names { declared.names ≡ names_of (file_of file.now) }
+    requires values { values_given (file_of file.now) ≡ Ok declared.values }
+    requires exponents { all_exponents declared.values (equations_of (file_of file.now)) ≡ Ok declared.exponents.items }
     ensures says { Says model_data (model_step end (model_given (file_of file.now))) result }
     ensures shows { MatchResult result (λ _. Unit {0}) TextShows }
 {
-    match mp_trees::model(alloc, file, &declared.names, &declared.values) {
+    let Declared {
+        names,
+        values,
+        exponents,
+    } = declared;
+    match mp_trees::model(alloc, file, names, &values, &exponents) {
         Ok(model) => Ok(model),
         Err(ModelFault::Unvalued { name }) => Err(Refusal::Declared {
             kind: DeclKind::NoValue,
