@@ -1,5 +1,5 @@
 -- No name that a file reads is shifted by more than the greatest whole number of its tokens.
-use Rattle.std.proofs.Common.{◌≡◌, ℕ, zero, suc, ◌≤◌, List, [], ◌∷◌, ◌++◌, Bool, true, false, inl, inr, Option, Some, None, cond, flat_map, refl, sym, subst, arith}
+use Rattle.std.proofs.Common.{◌≡◌, ℕ, zero, suc, ◌≤◌, List, [], ◌∷◌, ◌++◌, Bool, true, false, inl, inr, Option, Some, None, cond, flat_map, sym, subst, arith}
 use Rattle.std.specs.List.{AllByRecursion}
 use Rattle.std.proofs.lemmas.List.Concat.{flat_map-append}
 use Rattle.std.specs.Option.{ForSome}
@@ -9,23 +9,23 @@ use Rattle.mp_tokens.specs.Literals.{number_of}
 use Rattle.mp_syntax.specs.declared.operator.Sign.{Sign}
 use Rattle.mp_syntax.specs.declared.operator.Operator.{Operator}
 use Rattle.mp_syntax.specs.declared.operator.Function.{Function}
-use Rattle.mp_syntax.specs.Syntax.{Shift, Named, Expr, Variable, Paren, Call, Power, Binary, Further, with_further, signed}
+use Rattle.mp_syntax.specs.Syntax.{Shift, Named, Expr, Variable, Paren, Call, Binary, Further, with_further, signed}
 use Rattle.mp_statements.specs.declared.kind.NameKind.{NameKind}
-use Rattle.mp_statements.specs.Statements.{Item, Statement, Declares}
+use Rattle.mp_statements.specs.Statements.{Item, Statement}
 use Rattle.mp_statements.specs.Parts.{items_in, equations_of}
-use Rattle.mp_format.specs.Format.{Format, Look, Of, sees, tok, both, choose, opt, many, via, Every, Made}
+use Rattle.mp_format.specs.Format.{Format, Of, sees, both, choose, opt, many, via, Every, Made}
 use Rattle.mp_format.specs.Notation.{of, ◌⊗◌}
 use Rattle.mp_format.proofs.Whole.{whole-made}
 use Rattle.mp_format.proofs.MadeLaws.{made}
 use Rattle.mp_expressions.specs.Productions.{Whole, expr, sign_format}
-use Rattle.mp_expressions.specs.Expressions.{shift, literal, flat_atom, pair, fenced, shift_part, closed, atom, raised, power, factor, further, times, product, plus, sum}
+use Rattle.mp_expressions.specs.Expressions.{shift, literal, flat_atom, pair, fenced, shift_part, closed, atom, raised, power, factor, times, product, plus, sum}
 use Rattle.mp_expressions.proofs.Atoms.{flat_writing, sum_writing}
 use Rattle.mp_grammar.specs.Productions.{declared, declares, assigns, item, model, statement, statements}
 use Rattle.mp_grammar.specs.Levels.{expression, flat, deeper}
 use Rattle.mp_grammar.specs.Grammar.{ReadsFile}
 use Rattle.mp_declared.specs.Points.{Point, Reader, Equation, Constant, reads, item_reads}
 use Rattle.mp_declared.specs.Shifts.{reach_of, is_far, first_far, far_shift}
-use Rattle.mp_declared.specs.Sides.{right_side, sides}
+use Rattle.mp_declared.specs.Sides.{right_side}
 
 -- the token is no whole number, or one of at most this
 abbrev pub IsWithin : ℕ → Tok → Type 0

@@ -1,5 +1,5 @@
 -- A text whose refusal is of a token has tokens, and this is the first wrong one.
-use Rattle.std.proofs.Common.{◌≡◌, ℕ, suc, ℤ, ◌-◌, List, [], ◌∷◌, length, drop, Option, Some, None, Result, Ok, Err, Bool, true, false, cond, nat_le, refl, sym, ap, ◌∙◌, subst, arith}
+use Rattle.std.proofs.Common.{◌≡◌, ℕ, suc, ℤ, ◌-◌, List, length, drop, Option, Some, None, Result, Ok, Err, Bool, true, false, cond, nat_le, refl, sym, ap, ◌∙◌, subst, arith}
 use Rattle.std.specs.Result.{MatchResult, IsErrAnd}
 use Rattle.mp_base.specs.declared.refusal.Refusal.{Refusal}
 use Rattle.mp_base.specs.declared.refusal.Refusal.TheVariants as o
@@ -10,7 +10,7 @@ use Rattle.mp_tokens.specs.Tokens.{Tok, BadByte, LongName, OpenComment, OpenText
 use Rattle.mp_tokens.specs.Literals.{far_literal}
 use Rattle.mp_statements.specs.Statements.{Statement}
 use Rattle.mp_statements.specs.Parts.{equations_of}
-use Rattle.mp_grammar.specs.Grammar.{FirstWrong, file_read}
+use Rattle.mp_grammar.specs.Grammar.{file_read}
 use Rattle.mp_grammar.proofs.Wrong.{wrong_number}
 use Rattle.mp_declared.specs.Declared.{Fault, declared_fault}
 use Rattle.mp_declared.specs.Shifts.{far_shift}
@@ -24,7 +24,7 @@ use Rattle.mp_values.specs.ModelOf.{model_given}
 use Rattle.mp_canonical.specs.Files.{canonical_text}
 use Rattle.mp_decl.specs.Given.{stuck_told, unless_fault, unless_far, unless_stuck, values_told, declared_given}
 use Rattle.mp_transform.specs.Steps.{Step, and_then, whole, Refuses}
-use Rattle.mp_transform.specs.Text.{token_step, wrong_token, file_step, shift_step, deep_step, model_step, limited, tested, tokens_give, model_of_text, text_gives}
+use Rattle.mp_transform.specs.Text.{token_step, wrong_token, file_step, shift_step, deep_step, model_step, limited, tested, tokens_give, text_gives}
 use Rattle.mp_transform.specs.Wrong.{ShowsWrongToken, IfWrongToken}
 
 -- it refuses no tokens and no grammar

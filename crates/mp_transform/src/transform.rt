@@ -4,9 +4,11 @@ ghost use Rattle.std.specs.Prelude.{◌≡◌, ◌<◌, ◌≤◌, ◌-◌, ◌^
 ghost use Rattle.std.specs.Option.{ForSome};
 ghost use Rattle.mp_tokens.specs.Literals.{far_literal};
 ghost use Rattle.mp_file.specs.Shown.{file_of};
+ghost use Rattle.mp_statements.specs.Parts.{equations_of};
 ghost use Rattle.mp_declared.specs.Heights.{greatest_height};
 ghost use Rattle.mp_declared.specs.Shifts.{far_shift};
 ghost use Rattle.mp_values.specs.Names.{names_of};
+ghost use Rattle.mp_values.specs.Exponents.{all_exponents};
 ghost use Rattle.mp_values.specs.Values.{values_given};
 ghost use Rattle.mp_values.specs.Exponents.{all_exponents};
 ghost use Rattle.mp_statements.specs.Parts.{equations_of};
