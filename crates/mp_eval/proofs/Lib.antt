@@ -1,0 +1,3 @@
+pub mod Tens
+pub mod Combined
+pub mod Ready

@@ -1,0 +1,11 @@
+//! Evaluation of the nodes of a graph over a grid, with points or intervals.
+#![tactic(auto)]
+
+mod fault;
+mod kind;
+mod leaf;
+mod marked;
+mod node;
+
+pub use fault::Fault;
+pub use kind::Kind;
