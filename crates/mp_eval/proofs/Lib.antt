@@ -1,3 +1,4 @@
 pub mod Tens
 pub mod Combined
 pub mod Ready
+pub mod Reach

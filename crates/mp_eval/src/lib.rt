@@ -5,7 +5,10 @@ mod fault;
 mod kind;
 mod leaf;
 mod marked;
+mod marks;
 mod node;
+mod roots;
 
 pub use fault::Fault;
 pub use kind::Kind;
+pub use roots::EvalFault;
