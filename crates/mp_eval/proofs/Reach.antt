@@ -138,3 +138,10 @@ root_ended {X = X} {C = C} f xs n i c p l e h =
     let d : first_fault n (map f (drop i xs)) ≡ first_fault n (f (slice_index xs i) ∷ map f (drop (suc i) xs)) = ap (λ (ys : List ℕ). first_fault n (map f ys)) (drop_item xs i l) in
     let g : first_fault n (f (slice_index xs i) ∷ map f (drop (suc i) xs)) ≡ Some (n, c) = ap (λ (r : Result X C). first_fault n (r ∷ map f (drop (suc i) xs))) e in
     sym (d ∙ g) ∙ h
+
+pub map_same : {R : Type 0} (f g : ℕ → R) (xs : List ℕ) → ((i : ℕ) → i < length xs → f (slice_index xs i) ≡ g (slice_index xs i)) → map f xs ≡ map g xs
+map_same f g [] h = refl
+map_same {R = R} f g (x ∷ xs) h =
+    let a : f x ≡ g x = h 0 (omega arith) in
+    let b : map f xs ≡ map g xs = map_same f g xs (λ i l. h (suc i) (omega (arith, l))) in
+    ap (λ (y : R). y ∷ map f xs) a ∙ ap (λ (ys : List R). g x ∷ ys) b

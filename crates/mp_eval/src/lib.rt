@@ -7,8 +7,10 @@ mod leaf;
 mod marked;
 mod marks;
 mod node;
+mod period;
 mod roots;
 
 pub use fault::Fault;
 pub use kind::Kind;
+pub use period::period_over;
 pub use roots::EvalFault;

@@ -38,7 +38,10 @@ fn result_at<K: Kind>(values: &[Result<K, Fault>], id: NodeId) -> Result<K, Faul
 }
 
 /// The first root that has a fault.
-fn first_of<K: Kind>(roots: &[NodeId], values: &[Result<K, Fault>]) -> Result<(), EvalFault>
+pub(crate) fn first_of<K: Kind>(
+    roots: &[NodeId],
+    values: &[Result<K, Fault>],
+) -> Result<(), EvalFault>
     requires inside { EachIndex roots.now (λ r. slice_index roots.now r < length values.now) }
     requires few { length roots.now < 2 ^ 32 }
     ensures { fault_of result ≡ first_fault 1 (map (value_at values.now) roots.now) }
