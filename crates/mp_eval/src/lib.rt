@@ -7,10 +7,12 @@ mod leaf;
 mod marked;
 mod marks;
 mod node;
-mod period;
+mod over;
 mod roots;
+mod scratch;
 
 pub use fault::Fault;
 pub use kind::Kind;
-pub use period::period_over;
+pub use over::period_over;
 pub use roots::EvalFault;
+pub use scratch::{Scratch, period};

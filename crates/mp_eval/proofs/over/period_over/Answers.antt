@@ -3,8 +3,10 @@ use Rattle.std.specs.Prelude.{slice_index}
 use Rattle.mp_walk.specs.Cells.{cell_at}
 use Rattle.mp_path.specs.Points.{cells_of}
 use Rattle.mp_eval.specs.Roots.{first_fault}
+use Rattle.mp_eval.specs.Rows.{value_at}
 use Rattle.mp_eval.proofs.Reach.{reached_marked, reached_least, map_same}
-use Rattle.mp_eval.proofs.period.period_over.Goals as goal
+use Rattle.mp_eval.proofs.First.{ended_valued, ended_before}
+use Rattle.mp_eval.proofs.over.period_over.Goals as goal
 
 pub evaluate-requires-clause-marks : goal.evaluate-requires-clause-marks
 evaluate-requires-clause-marks g c =
@@ -22,3 +24,9 @@ pub returns-clause-steps : goal.returns-clause-steps
 returns-clause-steps g c others all =
     let least = reached_least c.args.graph.now.terms c.args.roots.now c.mark.new.marks others c.mark.ensures.marks all in
     omega (arith, c.evaluate.ensures.steps, least)
+
+pub returns-clause-valued : goal.returns-clause-valued
+returns-clause-valued g c = ended_valued c.first_of.result (value_at c.evaluate.new.values) c.args.roots.now c.first_of.ensures
+
+pub returns-clause-valued_before : goal.returns-clause-valued_before
+returns-clause-valued_before g c = ended_before c.first_of.result (value_at c.evaluate.new.values) c.args.roots.now c.first_of.ensures

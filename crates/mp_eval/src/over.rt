@@ -1,5 +1,5 @@
 // The evaluation of a period.
-ghost use Rattle.std.specs.Prelude.{◌≡◌, ◌+◌, ◌≤◌, ◌<◌, ◌^◌, ℕ, List, Bool, Ok, IsOk, IfOk, pos, length, map, slice_index, EachIndex};
+ghost use Rattle.std.specs.Prelude.{◌≡◌, ◌+◌, ◌≤◌, ◌<◌, ◌^◌, ℕ, List, Bool, Ok, IsOk, IfOk, IfErr, pos, length, map, slice_index, EachIndex};
 ghost use Rattle.mp_walk.specs.Cells.{cell_at};
 ghost use Rattle.mp_walk.specs.Walk.{walk, size};
 ghost use Rattle.mp_path.specs.Points.{cells_of};
@@ -41,6 +41,11 @@ pub fn period_over<K: Kind, L: Ledger>(
     requires small { EachIndex roots.now (λ r. size (term_at graph.now.terms (slice_index roots.now r)) < 2 ^ 32) }
     ensures fault { fault_of result ≡ first_fault 1 (map (λ r. walk K.arithmetic (cell_at (cells_of grid.now) (pos t)) (term_at graph.now.terms r) 0) roots.now) }
     ensures values { EachIndex roots.now (λ r. value_at values.new (slice_index roots.now r) ≡ walk K.arithmetic (cell_at (cells_of grid.now) (pos t)) (term_at graph.now.terms (slice_index roots.now r)) 0) }
+    ensures valued { IsOk result → EachIndex roots.now (λ r. IsOk (value_at values.new (slice_index roots.now r))) }
+    ensures valued_before { IfErr result (λ f. (r : ℕ) → r + 1 < f.root → IsOk (value_at values.new (slice_index roots.now r))) }
+    ensures marks_room { length marks.new ≡ length marks.old }
+    ensures sizes_room { length sizes.new ≡ length sizes.old }
+    ensures values_room { length values.new ≡ length values.old }
     ensures steps { (others : List Bool) → HoldAll graph.now.terms roots.now others → steps.new ≤ steps.old + marked_of others (length graph.now.terms) }
 {
     mark(graph, roots, marks);
