@@ -1,5 +1,5 @@
 -- What an evaluation asks of terms.
-use Rattle.std.specs.Prelude.{ℕ, ◌<◌, ◌+◌, ◌^◌, Bool, false, if◌then◌else◌, zero, suc, List, length, slice_index, slice_index_or, Option, IsSome, IsTrue}
+use Rattle.std.specs.Prelude.{ℕ, ◌<◌, ◌+◌, ◌^◌, Bool, false, if◌then◌else◌, zero, suc, List, length, slice_index, slice_index_or, Option, IsSome, IsTrue, Contains}
 use Rattle.mp_semantics.specs.Term.{Leaf, Term, leaf, negative, binary, power_of, pick}
 use Rattle.mp_walk.specs.Cells.{Cell}
 use Rattle.mp_walk.specs.Walk.{size}
@@ -38,3 +38,7 @@ pub record AreReached (ts : List Term) (roots : List ℕ) (marks : List Bool) : 
 -- all that stands in a root is marked
 abbrev pub HoldAll : List Term → List ℕ → List Bool → Type 0
 HoldAll ts roots marks = (k r : ℕ) → k < length ts → r < length roots → IsIn (term_at ts k) (term_at ts (slice_index roots r)) → IsTrue (is_marked marks k)
+
+-- each term that stands in a root is in this list
+abbrev pub HasAll : List Term → List ℕ → List Term → Type 0
+HasAll ts roots list = (t : Term) (r : ℕ) → r < length roots → IsIn t (term_at ts (slice_index roots r)) → Contains list t

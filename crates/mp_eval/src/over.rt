@@ -1,11 +1,12 @@
 // The evaluation of a period.
-ghost use Rattle.std.specs.Prelude.{◌≡◌, ◌+◌, ◌≤◌, ◌<◌, ◌^◌, ℕ, List, Bool, Ok, IsOk, IfOk, IfErr, pos, length, map, slice_index, EachIndex};
+ghost use Rattle.std.specs.Prelude.{◌≡◌, ◌+◌, ◌≤◌, ◌<◌, ◌^◌, ℕ, List, Bool, IsOk, IfErr, pos, length, map, slice_index, EachIndex};
+ghost use Rattle.mp_semantics.specs.Term.{Term};
 ghost use Rattle.mp_walk.specs.Cells.{cell_at};
 ghost use Rattle.mp_walk.specs.Walk.{walk, size};
 ghost use Rattle.mp_path.specs.Points.{cells_of};
 ghost use Rattle.mp_graph.specs.Shared.{term_at};
 ghost use Rattle.mp_eval.specs.Rows.{value_at};
-ghost use Rattle.mp_eval.specs.Given.{marked_of, IsGiven, HoldAll};
+ghost use Rattle.mp_eval.specs.Given.{marked_of, IsGiven, HoldAll, HasAll};
 ghost use Rattle.mp_eval.specs.Roots.{first_fault, fault_of};
 
 use crate::fault::Fault;
@@ -47,7 +48,9 @@ pub fn period_over<K: Kind, L: Ledger>(
     ensures sizes_room { length sizes.new ≡ length sizes.old }
     ensures values_room { length values.new ≡ length values.old }
     ensures steps { (others : List Bool) → HoldAll graph.now.terms roots.now others → steps.new ≤ steps.old + marked_of others (length graph.now.terms) }
+    ensures distinct { (list : List Term) → HasAll graph.now.terms roots.now list → steps.new ≤ steps.old + length list }
 {
+    graph.unique();
     mark(graph, roots, marks);
     evaluate(graph, marks, grid, t, sizes, values, steps);
     first_of(roots, values)

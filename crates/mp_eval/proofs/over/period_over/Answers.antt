@@ -5,6 +5,7 @@ use Rattle.mp_path.specs.Points.{cells_of}
 use Rattle.mp_eval.specs.Roots.{first_fault}
 use Rattle.mp_eval.specs.Rows.{value_at}
 use Rattle.mp_eval.proofs.Reach.{reached_marked, reached_least, map_same}
+use Rattle.mp_eval.proofs.Count.{reached_terms}
 use Rattle.mp_eval.proofs.First.{ended_valued, ended_before}
 use Rattle.mp_eval.proofs.over.period_over.Goals as goal
 
@@ -30,3 +31,8 @@ returns-clause-valued g c = ended_valued c.first_of.result (value_at c.evaluate.
 
 pub returns-clause-valued_before : goal.returns-clause-valued_before
 returns-clause-valued_before g c = ended_before c.first_of.result (value_at c.evaluate.new.values) c.args.roots.now c.first_of.ensures
+
+pub returns-clause-distinct : goal.returns-clause-distinct
+returns-clause-distinct g c list all =
+    let least = reached_terms c.args.graph.now.terms c.args.roots.now c.mark.new.marks list c.unique.ensures c.mark.ensures.marks all in
+    omega (arith, c.evaluate.ensures.steps, least)
