@@ -3,6 +3,7 @@
 
 mod fault;
 mod kind;
+mod law;
 mod leaf;
 mod marked;
 mod marks;
@@ -13,6 +14,7 @@ mod scratch;
 
 pub use fault::Fault;
 pub use kind::Kind;
+pub use law::interval_law;
 pub use over::period_over;
 pub use roots::EvalFault;
 pub use scratch::{Scratch, period};
