@@ -33,13 +33,15 @@ texts() {
   awk -v texts="$1" 'BEGIN { printf "var x; model; x = 2*x(-1); end; "; for (i = 1; i <= texts; i++) print "\047a text in quotes, as for a name\047" }'
 }
 
-# so many equations, each with 500 parentheses open
+# so many equations of so many terms, each term with 500 parentheses open
 parentheses() {
-  awk -v equations="$1" 'BEGIN {
+  awk -v equations="$1" -v terms="$2" 'BEGIN {
     for (k = 1; k <= 500; k++) { open = open "("; close_ = close_ ")" }
     printf "var"; for (i = 1; i <= equations; i++) printf " x%d", i; print ";"
     print "model;"
-    for (i = 1; i <= equations; i++) printf "x%d=%s1%s;\n", i, open, close_
+    for (i = 1; i <= equations; i++) {
+      printf "x%d=1", i; for (k = 1; k <= terms; k++) printf "+%s1%s", open, close_; print ";"
+    }
     print "end;" }'
 }
 
@@ -54,6 +56,48 @@ places() {
 # a sum of so many terms
 sum() {
   awk -v terms="$1" 'BEGIN { printf "var x; model; x = 1"; for (i = 1; i < terms; i++) printf "+x"; print "; end;" }'
+}
+
+# so many locals, each reading the one before, of which an equation reads this one
+locals() {
+  awk -v locals="$1" -v read="$2" 'BEGIN {
+    print "var x; model; # a0 = x;"
+    for (i = 1; i <= locals; i++) printf "# a%d = a%d+1;\n", i, i - 1
+    printf "x = a%d; end;\n", read }'
+}
+
+# so many locals, each the difference of one sum of so many terms
+differences() {
+  awk -v locals="$1" -v terms="$2" 'BEGIN {
+    printf "var x; varexo e; model; # a = e"; for (i = 1; i < terms; i++) printf "+%d*e", i; print ";"
+    for (i = 1; i <= locals; i++) printf "# b%d = diff(a);\n", i
+    print "x = 1; end;" }'
+}
+
+# so many locals, each 500 differences inside one another
+nested() {
+  awk -v locals="$1" 'BEGIN {
+    for (k = 1; k <= 500; k++) { open = open "diff("; close_ = close_ ")" }
+    print "var x; parameters p; p = 1; model;"
+    for (i = 1; i <= locals; i++) printf "# b%d = %sp%s;\n", i, open, close_
+    print "x = 1; end;" }'
+}
+
+# so many equations, each with so many tags
+tags() {
+  awk -v equations="$1" -v tags="$2" 'BEGIN {
+    printf "var"; for (i = 1; i <= equations; i++) printf " x%d", i; print ";"
+    print "model;"
+    for (i = 1; i <= equations; i++) {
+      printf "[name=\047equation %d\047", i; for (k = 1; k <= tags; k++) printf ",note%d=\047a tag that is dropped\047", k
+      printf "] x%d = 1;\n", i
+    }
+    print "end;" }'
+}
+
+# so many noted commands
+notes() {
+  awk -v notes="$1" 'BEGIN { print "var x; model; x = 1; end;"; for (i = 1; i <= notes; i++) print "rplot x, x;" }'
 }
 
 # name, wanted status
@@ -84,9 +128,23 @@ comments 140000 > "$work/text.mod"
 measure "comments" 0
 texts 240000 > "$work/text.mod"
 measure "quoted texts, no token of the grammar" 5
-parentheses 8000 > "$work/text.mod"
-measure "8,000 equations with 500 ( open" 0
+parentheses 200 40 > "$work/text.mod"
+measure "500 ( open in 8,000 terms" 0
 places 10000 > "$work/text.mod"
 measure "500 ( open in 10,000 places, too high" 7
 sum 1000000 > "$work/text.mod"
 measure "a sum of 1,000,000 terms, too high" 7
+locals 100000 0 > "$work/text.mod"
+measure "100,000 locals, each reading the one before" 0
+locals 100000 100000 > "$work/text.mod"
+measure "the same, the last one read, too high" 7
+differences 300000 100000 > "$work/text.mod"
+measure "300,000 differences of 100,000 terms" 0
+nested 2700 > "$work/text.mod"
+measure "2,700 times 500 differences" 0
+tags 200 1100 > "$work/text.mod"
+measure "200 equations with 1,100 tags each" 0
+tags 1 220000 > "$work/text.mod"
+measure "an equation with 220,000 tags" 0
+notes 690000 > "$work/text.mod"
+measure "690,000 noted commands" 0

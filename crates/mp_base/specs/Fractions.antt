@@ -1,7 +1,7 @@
 -- Fractions as refusals report them.
 use Rattle.std.specs.Prelude.{pos, ◌<ℤ◌, unsigned_abs}
 use Rattle.std.specs.Int.{IsGcd}
-use Rattle.mp_base.specs.declared.span.Ratio.{Ratio}
+use Rattle.mp_base.specs.declared.fraction.Ratio.{Ratio}
 
 -- in lowest terms, with a positive denominator
 pub record IsReduced (r : Ratio) : Type 0 where

@@ -2,8 +2,8 @@
 ghost use Rattle.std.specs.Prelude.{◌≡◌, pos};
 ghost use Rattle.mp_base.specs.Fractions.{IsReduced};
 
+use crate::fraction::Ratio;
 use crate::kinds::DataKind;
-use crate::span::Ratio;
 use std::marker::Model;
 
 /// The fraction n/d in lowest terms with a positive denominator, as refusals report it.
@@ -13,7 +13,7 @@ pub struct Reduced {
 }
 
 impl Model for Reduced {
-    ghost use Rattle.mp_base.specs.declared.span.Ratio.{Ratio};
+    ghost use Rattle.mp_base.specs.declared.fraction.Ratio.{Ratio};
     ghost use Rattle.mp_base.specs.Fractions.{IsReduced};
 
     ghost Value = { Ratio };

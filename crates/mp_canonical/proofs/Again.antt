@@ -4,17 +4,19 @@ use Rattle.std.specs.List.{AllByRecursion}
 use Rattle.mp_syntax.specs.Syntax.{Named}
 use Rattle.mp_statements.specs.declared.kind.NameKind.{NameKind}
 use Rattle.mp_statements.specs.declared.kind.NameKind.TheVariants as kind
+use Rattle.mp_statements.specs.Parts.{name_of}
 use Rattle.mp_semantics.specs.Model as m
 use Rattle.mp_values.specs.Table.{Table}
 use Rattle.mp_values.specs.Names.{Names}
 use Rattle.mp_values.specs.Limits.{Folded, ◌>>=◌, answer, exact}
-use Rattle.mp_values.specs.ModelOf.{term_by, equation, equation_by, each, parameters_given, model_with, model_of}
+use Rattle.mp_values.specs.ModelOf.{term_by, equation_named, equation_by, items_by, parameters_given, model_with, model_of}
 use Rattle.mp_canonical.specs.Terms.{unplaced, canonical}
 use Rattle.mp_canonical.specs.Contents.{Contents, joined, declared_names, contents_in, contents_of}
-use Rattle.mp_canonical.specs.Files.{names_part, value_part, equation_part, equations_part, canonical_file}
+use Rattle.mp_canonical.specs.Files.{names_part, value_part, equation_written, equation_part, equations_part, canonical_file}
 use Rattle.mp_canonical.specs.Printable.{model_names, IsPrintableEquation, IsPrintable}
 use Rattle.mp_canonical.proofs.Contents.{same_contents, both_parts, contents_model, model-told}
 use Rattle.mp_canonical.proofs.Results.{then}
+use Rattle.mp_canonical.proofs.TagNames.{name-again}
 use Rattle.mp_canonical.proofs.Values.{Ratios}
 use Rattle.mp_canonical.proofs.Tables.{assignment, values_again}
 use Rattle.mp_canonical.proofs.Terms.{term_back}
@@ -65,23 +67,25 @@ file-held M =
 -- ---- what it means
 
 module _ (laws : Ratios) (room : ℕ) (ns : Names) (t : Table) where
-  equation_again : (e : m.Equation) → IsPrintableEquation room ns e → equation_by exact ns t (equation_part ns e) ≡ Ok e
+  equation_again : (e : m.Equation) → IsPrintableEquation room ns e → equation_by exact ns [] t (equation_written ns e) ≡ Ok e
   equation_again e h =
-      then _ e.left (λ l. term_by exact ns t (canonical ns e.right) >>= λ r. Ok (equation l r)) (term_back laws ns t e.left h.left_side.0)
-      ∙ then _ e.right (λ r. Ok (equation e.left r)) (term_back laws ns t e.right h.right_side.0)
+      let name = name_of (equation_written ns e) in
+      then _ e.left (λ l. term_by exact ns [] t (canonical ns e.right) >>= λ r. Ok (equation_named name l r)) (term_back laws ns t e.left h.left_side.0)
+      ∙ then _ e.right (λ r. Ok (equation_named name e.left r)) (term_back laws ns t e.right h.right_side.0)
+      ∙ ap (λ n. Ok (equation_named n e.left e.right)) (name-again e.name (canonical ns e.left) (Some (canonical ns e.right)))
       ∙ ap Ok (sym h.plain)
 
-  equations_again : (es : List m.Equation) → AllByRecursion (IsPrintableEquation room ns) es → each (equation_by exact ns t) (map (equation_part ns) es) ≡ Ok es
+  equations_again : (es : List m.Equation) → AllByRecursion (IsPrintableEquation room ns) es → items_by exact ns t [] (map (equation_part ns) es) ≡ Ok es
   equations_again [] h = refl
   equations_again (e ∷ es) h =
-      then _ e (λ y. each (equation_by exact ns t) (map (equation_part ns) es) >>= λ ys. Ok (y ∷ ys)) (equation_again e h.0) ∙ then _ es (λ ys. Ok (e ∷ ys)) (equations_again es h.1)
+      then _ e (λ y. items_by exact ns t [] (map (equation_part ns) es) >>= λ ys. Ok (y ∷ ys)) (equation_again e h.0) ∙ then _ es (λ ys. Ok (e ∷ ys)) (equations_again es h.1)
 
 pub model_again : Ratios → (room : ℕ) (M : m.Model) → IsPrintable room M → model_of (canonical_file M) ≡ Some M
 unfolding canonical_contents
 model_again laws room M is =
     let ns = model_names M in
     let v = values_again laws is.value M.parameters is.values in
-    let es : Table → Folded (List m.Equation) = λ t. each (equation_by exact ns t) (map (equation_part ns) M.equations) in
+    let es : Table → Folded (List m.Equation) = λ t. items_by exact ns t [] (map (equation_part ns) M.equations) in
     ap answer (model-told exact (canonical_file M) ∙ ap (contents_model exact) (file-held M)
     ∙ then _ v.table (λ t. parameters_given t >>= λ ps. es t >>= λ es. Ok (model_with ns ps es)) v.after
     ∙ then _ M.parameters (λ ps. es v.table >>= λ es. Ok (model_with ns ps es)) v.given

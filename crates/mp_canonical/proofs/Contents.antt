@@ -2,15 +2,15 @@
 use Rattle.std.proofs.Common.{◌≡◌, ℕ, List, [], ◌∷◌, ◌++◌, map, Some, Ok, Err, refl, sym, ap, ◌∙◌, append_assoc}
 use Rattle.mp_syntax.specs.Syntax.{Named, Expr}
 use Rattle.mp_statements.specs.declared.kind.NameKind.TheVariants as kind
-use Rattle.mp_statements.specs.Statements.{Item, Statement, Declares, Assigns, Model}
-use Rattle.mp_statements.specs.Parts.{names_in, items_in, equations_of}
+use Rattle.mp_statements.specs.Statements.{Item, Statement, Declares, Assigns, Model, Notes}
+use Rattle.mp_statements.specs.Parts.{names_in, items_in, items_of}
 use Rattle.mp_statements.specs.Parts as parts
 use Rattle.mp_semantics.specs.Model as m
 use Rattle.mp_values.specs.Table.{Table, unset, with_value}
 use Rattle.mp_values.specs.Names.{Names, names_of}
 use Rattle.mp_values.specs.Limits.{Folded, ◌>>=◌, Limits}
 use Rattle.mp_values.specs.Values.{value_by, assigned_by}
-use Rattle.mp_values.specs.ModelOf.{equation_by, each, parameters_given, model_with, model_by}
+use Rattle.mp_values.specs.ModelOf.{items_by, parameters_given, model_with, model_by}
 use Rattle.mp_canonical.specs.Contents.{Contents, joined, contents_in, contents_of}
 
 -- ---- joined files
@@ -48,7 +48,7 @@ assigned_all L t (a ∷ more) = value_by L t a.1 >>= λ x. assigned_all L (with_
 -- the model that contents mean
 abbrev pub contents_model : Limits → Contents → Folded m.Model
 contents_model L c =
-    assigned_all L (unset c.parameters) c.assignments >>= λ t. parameters_given t >>= λ ps. each (equation_by L (contents_names c) t) c.items >>= λ es. Ok (model_with (contents_names c) ps es)
+    assigned_all L (unset c.parameters) c.assignments >>= λ t. parameters_given t >>= λ ps. items_by L (contents_names c) t [] c.items >>= λ es. Ok (model_with (contents_names c) ps es)
 
 endogenous-told : (file : List Statement) → parts.names_of kind.Endogenous file ≡ (contents_of file).endogenous
 endogenous-told [] = refl
@@ -56,7 +56,8 @@ endogenous-told (Declares kind.Endogenous ns ∷ file) = ap (λ l. map (λ (n : 
 endogenous-told (Declares kind.Exogenous ns ∷ file) = endogenous-told file
 endogenous-told (Declares kind.Parameter ns ∷ file) = endogenous-told file
 endogenous-told (Assigns n e ∷ file) = endogenous-told file
-endogenous-told (Model at xs ∷ file) = endogenous-told file
+endogenous-told (Model at choices xs ∷ file) = endogenous-told file
+endogenous-told (Notes command ns ∷ file) = endogenous-told file
 
 exogenous-told : (file : List Statement) → parts.names_of kind.Exogenous file ≡ (contents_of file).exogenous
 exogenous-told [] = refl
@@ -64,7 +65,8 @@ exogenous-told (Declares kind.Endogenous ns ∷ file) = exogenous-told file
 exogenous-told (Declares kind.Exogenous ns ∷ file) = ap (λ l. map (λ (n : Named). n.name) ns ++ l) (exogenous-told file)
 exogenous-told (Declares kind.Parameter ns ∷ file) = exogenous-told file
 exogenous-told (Assigns n e ∷ file) = exogenous-told file
-exogenous-told (Model at xs ∷ file) = exogenous-told file
+exogenous-told (Model at choices xs ∷ file) = exogenous-told file
+exogenous-told (Notes command ns ∷ file) = exogenous-told file
 
 parameters-told : (file : List Statement) → parts.names_of kind.Parameter file ≡ (contents_of file).parameters
 parameters-told [] = refl
@@ -72,15 +74,17 @@ parameters-told (Declares kind.Endogenous ns ∷ file) = parameters-told file
 parameters-told (Declares kind.Exogenous ns ∷ file) = parameters-told file
 parameters-told (Declares kind.Parameter ns ∷ file) = ap (λ l. map (λ (n : Named). n.name) ns ++ l) (parameters-told file)
 parameters-told (Assigns n e ∷ file) = parameters-told file
-parameters-told (Model at xs ∷ file) = parameters-told file
+parameters-told (Model at choices xs ∷ file) = parameters-told file
+parameters-told (Notes command ns ∷ file) = parameters-told file
 
-pub items-told : (file : List Statement) → equations_of file ≡ (contents_of file).items
+pub items-told : (file : List Statement) → items_of file ≡ (contents_of file).items
 items-told [] = refl
 items-told (Declares kind.Endogenous ns ∷ file) = items-told file
 items-told (Declares kind.Exogenous ns ∷ file) = items-told file
 items-told (Declares kind.Parameter ns ∷ file) = items-told file
 items-told (Assigns n e ∷ file) = items-told file
-items-told (Model at xs ∷ file) = ap (λ l. xs ++ l) (items-told file)
+items-told (Model at choices xs ∷ file) = ap (λ l. xs ++ l) (items-told file)
+items-told (Notes command ns ∷ file) = items-told file
 
 names-told : (file : List Statement) → names_of file ≡ contents_names (contents_of file)
 names-told file =
@@ -98,11 +102,12 @@ assigned-told L t (Declares kind.Endogenous ns ∷ file) = assigned-told L t fil
 assigned-told L t (Declares kind.Exogenous ns ∷ file) = assigned-told L t file
 assigned-told L t (Declares kind.Parameter ns ∷ file) = assigned-told L t file
 assigned-told L t (Assigns n e ∷ file) = next (value_by L t e) _ _ (λ x. assigned-told L (with_value n.name (Some x) t) file)
-assigned-told L t (Model at xs ∷ file) = assigned-told L t file
+assigned-told L t (Model at choices xs ∷ file) = assigned-told L t file
+assigned-told L t (Notes command ns ∷ file) = assigned-told L t file
 
 -- the model of a file is that of its contents
 pub model-told : (L : Limits) (file : List Statement) → model_by L file ≡ contents_model L (contents_of file)
 model-told L file =
-    ap (λ (ns : Names). assigned_by L (unset ns.parameters) file >>= λ t. parameters_given t >>= λ ps. each (equation_by L ns t) (equations_of file) >>= λ es. Ok (model_with ns ps es)) (names-told file)
-    ∙ ap (λ (xs : List Item). assigned_by L (unset (contents_of file).parameters) file >>= λ t. parameters_given t >>= λ ps. each (equation_by L (contents_names (contents_of file)) t) xs >>= λ es. Ok (model_with (contents_names (contents_of file)) ps es)) (items-told file)
-    ∙ ap (λ (u : Folded Table). u >>= λ t. parameters_given t >>= λ ps. each (equation_by L (contents_names (contents_of file)) t) (contents_of file).items >>= λ es. Ok (model_with (contents_names (contents_of file)) ps es)) (assigned-told L (unset (contents_of file).parameters) file)
+    ap (λ (ns : Names). assigned_by L (unset ns.parameters) file >>= λ t. parameters_given t >>= λ ps. items_by L ns t [] (items_of file) >>= λ es. Ok (model_with ns ps es)) (names-told file)
+    ∙ ap (λ (xs : List Item). assigned_by L (unset (contents_of file).parameters) file >>= λ t. parameters_given t >>= λ ps. items_by L (contents_names (contents_of file)) t [] xs >>= λ es. Ok (model_with (contents_names (contents_of file)) ps es)) (items-told file)
+    ∙ ap (λ (u : Folded Table). u >>= λ t. parameters_given t >>= λ ps. items_by L (contents_names (contents_of file)) t [] (contents_of file).items >>= λ es. Ok (model_with (contents_names (contents_of file)) ps es)) (assigned-told L (unset (contents_of file).parameters) file)

@@ -1,5 +1,5 @@
 -- The file of a model is one that a text may write.
-use Rattle.std.proofs.Common.{◌≡◌, ℕ, zero, suc, ℤ, pos, negsuc, ◌≤◌, ◌<◌, List, [], ◌∷◌, ◌++◌, map, Bool, true, false, cond, ◌||◌, ◌==◌, nat_lt, refl, arith}
+use Rattle.std.proofs.Common.{◌≡◌, ℕ, zero, suc, ℤ, pos, negsuc, ◌≤◌, ◌<◌, List, [], ◌∷◌, ◌++◌, map, Bool, true, false, cond, ◌||◌, ◌==◌, nat_lt, Option, Some, None, codes, refl, arith}
 use Rattle.std.specs.List.{AllByRecursion}
 use Rattle.mp_rational.specs.Fraction.{Fraction}
 use Rattle.mp_rational.specs.Lowest.{numerator, denominator}
@@ -10,16 +10,20 @@ use Rattle.mp_statements.specs.declared.kind.NameKind.{NameKind}
 use Rattle.mp_statements.specs.declared.kind.NameKind.TheVariants as kind
 use Rattle.mp_semantics.specs.Term.{Leaf, number, parameter, variable, steady_state, Binary, plus, minus, times, quotient, least, greatest, Term, leaf, negative, binary, power_of, pick}
 use Rattle.mp_semantics.specs.Model as m
+use Rattle.mp_expr.specs.Size.{height_of}
 use Rattle.mp_format.specs.Pieces.{IsName}
-use Rattle.mp_format.specs.Spelling.{FitsAll}
+use Rattle.mp_tokens.specs.Terminals.{word_of}
+use Rattle.mp_format.specs.Spelling.{FitsAll, FitsOpt}
 use Rattle.mp_expressions.specs.InForm.{AtPower, AtFactor, AtProduct, AtSum, IsShift, Deep, InForm}
+use Rattle.mp_grammar.specs.Tags.{IsTag}
 use Rattle.mp_grammar.specs.Statements.{IsExpression, IsNamed, IsItem, IsStatement, IsFile}
 use Rattle.mp_values.specs.Names.{Names}
 use Rattle.mp_canonical.specs.Numbers.{decimal_digits}
 use Rattle.mp_canonical.specs.Terms.{level, operator_level, is_loose, is_loose_right, begins_minus, fenced, operation, unplaced, canonical_shift, canonical_leaf, canonical_whole, canonical_exponent, canonical, canonical_value}
-use Rattle.mp_canonical.specs.Printable.{model_names, IsPrintableLeaf, IsPrintableTerm, term_height, IsPrintableSide, IsPrintableEquation, IsPrintable}
-use Rattle.mp_canonical.specs.Files.{names_part, value_part, equation_part, equations_part, canonical_file}
+use Rattle.mp_canonical.specs.Printable.{model_names, IsPrintableLeaf, IsPrintableTerm, IsTagName, IsPrintableSide, IsPrintableEquation, IsPrintable}
+use Rattle.mp_canonical.specs.Files.{tags_part, names_part, value_part, equation_part, equations_part, canonical_file}
 use Rattle.mp_canonical.proofs.Numbers.{text_is_literal, digits_are}
+use Rattle.mp_canonical.proofs.TagNames.{quoted_text}
 
 -- in form at each level that it is bound as tightly as, with so many parentheses open inside
 record InLevel (room n : ℕ) (e : Expr) : Type 0 where
@@ -29,8 +33,7 @@ record InLevel (room n : ℕ) (e : Expr) : Type 0 where
   power : nat_lt n 4 ≡ false → AtPower (Deep (InForm room)) e
   atom : nat_lt n 5 ≡ false → Deep (InForm room) e
 
-tall : (t : Term) → 0 < term_height t
-unfolding term_height
+tall : (t : Term) → 0 < height_of t
 tall (leaf l) = omega arith
 tall (negative a) = omega arith
 tall (binary op a b) = omega arith
@@ -113,13 +116,13 @@ module _ (room : ℕ) (a b : Term) (x y : Expr) (first : InLevel room (level a) 
 
 module _ (ns : Names) where
   -- inside one more "("
-  within : (t : Term) (room : ℕ) → term_height t ≤ room → ((m : ℕ) → term_height t ≤ suc m → InLevel m (level t) (canonical ns t)) → InForm room (canonical ns t)
+  within : (t : Term) (room : ℕ) → height_of t ≤ room → ((m : ℕ) → height_of t ≤ suc m → InLevel m (level t) (canonical ns t)) → InForm room (canonical ns t)
   unfolding InForm
   within t zero low h = absurd (omega (arith, tall t))
   within t (suc m) low h = (h m low).sum
 
-  form : (t : Term) → IsPrintableTerm ns t → (room : ℕ) → term_height t ≤ suc room → InLevel room (level t) (canonical ns t)
-  unfolding canonical term_height
+  form : (t : Term) → IsPrintableTerm ns t → (room : ℕ) → height_of t ≤ suc room → InLevel room (level t) (canonical ns t)
+  unfolding canonical
   form (leaf l) is room low = leaf_form room ns l is
   form (negative a) is room low =
       let h : AtPower (Deep (InForm room)) (fenced (nat_lt (level a) 4) (canonical ns a)) = power_fence room (canonical ns a) (within a room (omega arith) (form a is)) (nat_lt (level a) 4) (form a is room (omega arith)).power in
@@ -164,13 +167,23 @@ values_form : (ps : List m.Parameter) → AllByRecursion IsName (map (λ (p : m.
 values_form [] is = tt
 values_form (p ∷ ps) is = ((is.0, value_form p.value), values_form ps is.1)
 
+-- `name` is no reserved word
+is_name : IsName (codes "name")
+unfolding word_of
+is_name = ((refl, refl, omega arith), refl)
+
+tags_form : (name : Option (List ℕ)) → FitsOpt IsTagName name → FitsAll IsTag (tags_part name)
+tags_form None is = tt
+tags_form (Some name) is = ((is_name, quoted_text name is), tt)
+
 module _ (room : ℕ) (low : room ≤ 500) (ns : Names) where
   pub equation_form : (e : m.Equation) → IsPrintableEquation room ns e → IsItem (equation_part ns e)
-  equation_form e is = (canonical_form ns room e.left is.left_side low, canonical_form ns room e.right is.right_side low)
+  equation_form e is =
+      (tags_form e.name is.tag_name, canonical_form ns room e.left is.left_side low, canonical_form ns room e.right is.right_side low)
 
   equations_form : (es : List m.Equation) → AllByRecursion (IsPrintableEquation room ns) es → FitsAll IsStatement (equations_part ns es)
   equations_form [] is = tt
-  equations_form (e ∷ es) is = (all_map (IsPrintableEquation room ns) IsItem (equation_part ns) equation_form (e ∷ es) is, tt)
+  equations_form (e ∷ es) is = ((tt, all_map (IsPrintableEquation room ns) IsItem (equation_part ns) equation_form (e ∷ es) is), tt)
 
 pub file_form : (room : ℕ) (M : m.Model) → IsPrintable room M → room ≤ 500 → IsFile (canonical_file M)
 file_form room M is low =

@@ -16,4 +16,7 @@ pub mod FileNames
 pub mod Back
 pub mod Texts
 pub mod Lines
-pub mod Tagged
+pub mod TagNames
+pub mod Positions
+pub mod AuxiliaryNames
+pub mod Transformed

@@ -1,23 +1,24 @@
 -- What a file means does not depend on places.
-use Rattle.std.proofs.Common.{◌≡◌, ℕ, ℤ, List, [], ◌∷◌, ◌++◌, map, cond, Option, Some, None, option_map, Ok, Err, refl, sym, ap, ◌∙◌}
+use Rattle.std.proofs.Common.{◌≡◌, ℕ, ℤ, List, [], ◌∷◌, ◌++◌, map, find, Bool, true, false, cond, Option, Some, None, option_map, codes, Ok, Err, refl, sym, ap, ◌∙◌}
 use Rattle.std.proofs.lemmas.List.{map-append}
 use Rattle.mp_rational.specs.Fraction.{Fraction}
 use Rattle.mp_statements.specs.declared.kind.NameKind.{NameKind}
 use Rattle.mp_statements.specs.declared.kind.NameKind.TheVariants as kind
 use Rattle.mp_syntax.specs.declared.operator.Sign.{Sign}
-use Rattle.mp_syntax.specs.Syntax.{Named, Expr, Number, Variable, Signed, Binary, Power, Paren, Call}
-use Rattle.mp_statements.specs.Statements.{Item, Statement, Declares, Assigns, Model}
-use Rattle.mp_statements.specs.Parts.{is_kind, names_in, items_in, equations_of}
+use Rattle.mp_syntax.specs.Syntax.{Named, Expr, Number, Variable, Signed, Binary, Power, Paren, Call, Diff}
+use Rattle.mp_statements.specs.Statements.{Tag, Equation, Item, Local, Equates, Statement, Declares, Assigns, Model, Notes}
+use Rattle.mp_statements.specs.Parts.{is_kind, is_tag, unquoted, names_in, items_in, items_of, name_of}
 use Rattle.mp_statements.specs.Parts as parts
 use Rattle.mp_semantics.specs.Value.{result_of}
 use Rattle.mp_semantics.specs.Model as m
 use Rattle.mp_expressions.specs.Script.{bare_name, bare}
-use Rattle.mp_grammar.specs.Statements.{bare_item, bare_statement, bare_file}
+use Rattle.mp_grammar.specs.Statements.{bare_equation, bare_item, bare_statement, bare_file}
+use Rattle.mp_grammar.specs.Tags.{bare_tag}
 use Rattle.mp_values.specs.Table.{Table, unset, with_value}
 use Rattle.mp_values.specs.Names.{Names, names_of}
 use Rattle.mp_values.specs.Limits.{Folded, ◌>>=◌, answer, exact, exponent_or, whole_of, defined, binary_of}
 use Rattle.mp_values.specs.Values.{with_sign_if, exponent_at, value_by, assigned_by, values_by}
-use Rattle.mp_values.specs.ModelOf.{term_by, right_by, equation_by, each, parameters_given, model_with, model_of}
+use Rattle.mp_values.specs.ModelOf.{Locals, term_by, right_by, equation_named, equation_by, items_by, parameters_given, model_with, model_of}
 use Rattle.mp_canonical.proofs.Results.{some_is}
 
 -- ---- the same answer, or none
@@ -57,9 +58,22 @@ value_bare t (Power a at s b) =
     next _ _ _ _ (value_bare t a) (λ x. next _ _ _ _ (value_bare t b) (λ y. next _ _ _ _ (exponent_alike 0 at s y) (λ k. defined_alike 0 at x _ x _ _)))
 value_bare t (Paren a) = value_bare t a
 value_bare t (Call f a b) = next _ _ _ _ (value_bare t a) (λ x. next _ _ _ _ (value_bare t b) (λ y. refl))
+value_bare t (Diff at a) = next _ _ _ _ (value_bare t a) (λ x. refl)
 
-module _ (ns : Names) (t : Table) where
-  term_bare : (e : Expr) → Alike (term_by exact ns t (bare e)) (term_by exact ns t e)
+-- the text of a tag does not change
+name-bare : (ts : List Tag) → option_map (λ (t : Tag). unquoted t.text) (find (is_tag (codes "name")) (map bare_tag ts)) ≡ option_map (λ (t : Tag). unquoted t.text) (find (is_tag (codes "name")) ts)
+name-bare [] = refl
+name-bare (x ∷ xs) = by (is_tag (codes "name") x) (name-bare xs)
+  where
+    text_in : Option Tag → Option (List ℕ)
+    text_in = option_map (λ (t : Tag). unquoted t.text)
+
+    by : (b : Bool) → text_in (find (is_tag (codes "name")) (map bare_tag xs)) ≡ text_in (find (is_tag (codes "name")) xs) → text_in (cond b (Some (bare_tag x)) (find (is_tag (codes "name")) (map bare_tag xs))) ≡ text_in (cond b (Some x) (find (is_tag (codes "name")) xs))
+    by true more = refl
+    by false more = more
+
+module _ (ns : Names) (ls : Locals) (t : Table) where
+  term_bare : (e : Expr) → Alike (term_by exact ns ls t (bare e)) (term_by exact ns ls t e)
   unfolding bare
   term_bare (Number literal at) = refl
   term_bare (Variable name shift) = refl
@@ -69,15 +83,21 @@ module _ (ns : Names) (t : Table) where
       next _ _ _ _ (term_bare a) (λ x. next _ _ _ _ (value_bare t b) (λ y. next _ _ _ _ (exponent_alike 0 at s y) (λ k. refl)))
   term_bare (Paren a) = term_bare a
   term_bare (Call f a b) = next _ _ _ _ (term_bare a) (λ x. next _ _ _ _ (term_bare b) (λ y. refl))
+  term_bare (Diff at a) = next _ _ _ _ (term_bare a) (λ x. refl)
 
-  right_bare : (right : Option Expr) → Alike (right_by exact ns t (option_map bare right)) (right_by exact ns t right)
+  right_bare : (right : Option Expr) → Alike (right_by exact ns ls t (option_map bare right)) (right_by exact ns ls t right)
   right_bare None = refl
   right_bare (Some e) = term_bare e
 
-  each_bare : (xs : List Item) → Alike (each (equation_by exact ns t) (map bare_item xs)) (each (equation_by exact ns t) xs)
-  each_bare [] = refl
-  each_bare (x ∷ xs) =
-      next (equation_by exact ns t (bare_item x)) (equation_by exact ns t x) _ _ (next _ _ _ _ (term_bare x.left) (λ l. next _ _ _ _ (right_bare x.right) (λ r. refl))) (λ y. next _ _ _ _ (each_bare xs) (λ ys. refl))
+  equation_bare : (x : Equation) → Alike (equation_by exact ns ls t (bare_equation x)) (equation_by exact ns ls t x)
+  equation_bare x =
+      next _ _ _ _ (term_bare x.left) (λ l. next _ _ _ _ (right_bare x.right) (λ r. ap (λ n. Some (equation_named n l r)) (name-bare x.tags)))
+
+items_bare : (ns : Names) (t : Table) (ls : Locals) (xs : List Item) → Alike (items_by exact ns t ls (map bare_item xs)) (items_by exact ns t ls xs)
+items_bare ns t ls [] = refl
+items_bare ns t ls (Local n e ∷ xs) = next _ _ _ _ (term_bare ns ls t e) (λ x. items_bare ns t ((n.name, x) ∷ ls) xs)
+items_bare ns t ls (Equates x ∷ xs) =
+    next (equation_by exact ns ls t (bare_equation x)) (equation_by exact ns ls t x) _ _ (equation_bare ns ls t x) (λ y. next _ _ _ _ (items_bare ns t ls xs) (λ ys. refl))
 
 -- ---- files
 
@@ -88,7 +108,8 @@ names-bare (n ∷ ns) = ap (λ l. n.name ∷ l) (names-bare ns)
 names_in-bare : (k : NameKind) (s : Statement) → names_in k (bare_statement s) ≡ names_in k s
 names_in-bare k (Declares j ns) = ap (λ l. cond (is_kind k j) l []) (names-bare ns)
 names_in-bare k (Assigns name value) = refl
-names_in-bare k (Model at items) = refl
+names_in-bare k (Model at choices items) = refl
+names_in-bare k (Notes command ns) = refl
 
 kind_names-bare : (k : NameKind) (file : List Statement) → parts.names_of k (bare_file file) ≡ parts.names_of k file
 kind_names-bare k [] = refl
@@ -104,29 +125,31 @@ names_of-bare file =
 items_in-bare : (s : Statement) → items_in (bare_statement s) ≡ map bare_item (items_in s)
 items_in-bare (Declares j ns) = refl
 items_in-bare (Assigns name value) = refl
-items_in-bare (Model at items) = refl
+items_in-bare (Model at choices items) = refl
+items_in-bare (Notes command ns) = refl
 
-equations_of-bare : (file : List Statement) → equations_of (bare_file file) ≡ map bare_item (equations_of file)
-equations_of-bare [] = refl
-equations_of-bare (s ∷ file) =
-    ap (λ l. l ++ equations_of (bare_file file)) (items_in-bare s) ∙ ap (λ l. map bare_item (items_in s) ++ l) (equations_of-bare file) ∙ sym (map-append bare_item (items_in s) (equations_of file))
+items_of-bare : (file : List Statement) → items_of (bare_file file) ≡ map bare_item (items_of file)
+items_of-bare [] = refl
+items_of-bare (s ∷ file) =
+    ap (λ l. l ++ items_of (bare_file file)) (items_in-bare s) ∙ ap (λ l. map bare_item (items_in s) ++ l) (items_of-bare file) ∙ sym (map-append bare_item (items_in s) (items_of file))
 
 assigned_bare : (t : Table) (file : List Statement) → Alike (assigned_by exact t (bare_file file)) (assigned_by exact t file)
 assigned_bare t [] = refl
 assigned_bare t (Declares j ns ∷ file) = assigned_bare t file
 assigned_bare t (Assigns n e ∷ file) = next _ _ _ _ (value_bare t e) (λ x. assigned_bare (with_value n.name (Some x) t) file)
-assigned_bare t (Model at xs ∷ file) = assigned_bare t file
+assigned_bare t (Model at choices xs ∷ file) = assigned_bare t file
+assigned_bare t (Notes command ns ∷ file) = assigned_bare t file
 
 -- the model of these names and equations, where this gives the values of parameters
 abbrev model_with_items : Names → List Item → Folded Table → Folded m.Model
-model_with_items ns xs u = u >>= λ t. parameters_given t >>= λ ps. each (equation_by exact ns t) xs >>= λ es. Ok (model_with ns ps es)
+model_with_items ns xs u = u >>= λ t. parameters_given t >>= λ ps. items_by exact ns t [] xs >>= λ es. Ok (model_with ns ps es)
 
 model_of-bare : (file : List Statement) → model_of (bare_file file) ≡ model_of file
 model_of-bare file =
     let ns = names_of file in
-    ap (λ (n : Names). answer (model_with_items n (equations_of (bare_file file)) (assigned_by exact (unset n.parameters) (bare_file file)))) (names_of-bare file)
-    ∙ ap (λ (xs : List Item). answer (model_with_items ns xs (assigned_by exact (unset ns.parameters) (bare_file file)))) (equations_of-bare file)
-    ∙ next (assigned_by exact (unset ns.parameters) (bare_file file)) (values_by exact file) _ _ (assigned_bare (unset ns.parameters) file) (λ t. next (parameters_given t) (parameters_given t) _ _ refl (λ ps. next _ _ _ _ (each_bare ns t (equations_of file)) (λ es. refl)))
+    ap (λ (n : Names). answer (model_with_items n (items_of (bare_file file)) (assigned_by exact (unset n.parameters) (bare_file file)))) (names_of-bare file)
+    ∙ ap (λ (xs : List Item). answer (model_with_items ns xs (assigned_by exact (unset ns.parameters) (bare_file file)))) (items_of-bare file)
+    ∙ next (assigned_by exact (unset ns.parameters) (bare_file file)) (values_by exact file) _ _ (assigned_bare (unset ns.parameters) file) (λ t. next (parameters_given t) (parameters_given t) _ _ refl (λ ps. next _ _ _ _ (items_bare ns t [] (items_of file)) (λ es. refl)))
 
 -- a file that reads back as another one, but for places, has its model
 pub same_model : (file again : List Statement) → bare_file again ≡ bare_file file → model_of again ≡ model_of file

@@ -1,5 +1,5 @@
 -- A canonical expression means its term.
-use Rattle.std.proofs.Common.{◌≡◌, pos, Bool, true, false, nat_lt, None, Ok, Err, ap, ◌∙◌}
+use Rattle.std.proofs.Common.{◌≡◌, pos, [], Bool, true, false, nat_lt, None, Ok, Err, ap, ◌∙◌}
 use Rattle.mp_syntax.specs.Syntax.{Expr}
 use Rattle.mp_semantics.specs.Term.{Leaf, number, parameter, variable, steady_state, Binary, plus, minus, times, quotient, least, greatest, Term, leaf, negative, binary, power_of, pick}
 use Rattle.mp_values.specs.Table.{Table}
@@ -13,18 +13,19 @@ use Rattle.mp_canonical.proofs.Numbers.{decimal_of-text, shift_of-canonical}
 use Rattle.mp_canonical.proofs.Results.{then}
 use Rattle.mp_canonical.proofs.Values.{Ratios, exponent_back}
 
+-- where there are no locals
 module _ (laws : Ratios) (ns : Names) (tbl : Table) where
   -- with parentheses or without them
-  fence_back : (b : Bool) (e : Expr) (t : Term) → term_by exact ns tbl e ≡ Ok t → term_by exact ns tbl (fenced b e) ≡ Ok t
+  fence_back : (b : Bool) (e : Expr) (t : Term) → term_by exact ns [] tbl e ≡ Ok t → term_by exact ns [] tbl (fenced b e) ≡ Ok t
   fence_back true e t h = h
   fence_back false e t h = h
 
   -- both operands
-  both_back : (f : Term → Term → Term) (a b : Expr) (x y : Term) → term_by exact ns tbl a ≡ Ok x → term_by exact ns tbl b ≡ Ok y → (term_by exact ns tbl a >>= λ x. term_by exact ns tbl b >>= λ y. Ok (f x y)) ≡ Ok (f x y)
+  both_back : (f : Term → Term → Term) (a b : Expr) (x y : Term) → term_by exact ns [] tbl a ≡ Ok x → term_by exact ns [] tbl b ≡ Ok y → (term_by exact ns [] tbl a >>= λ x. term_by exact ns [] tbl b >>= λ y. Ok (f x y)) ≡ Ok (f x y)
   both_back f a b x y h k =
-      then (term_by exact ns tbl a) x (λ x. term_by exact ns tbl b >>= λ y. Ok (f x y)) h ∙ then (term_by exact ns tbl b) y (λ y. Ok (f x y)) k
+      then (term_by exact ns [] tbl a) x (λ x. term_by exact ns [] tbl b >>= λ y. Ok (f x y)) h ∙ then (term_by exact ns [] tbl b) y (λ y. Ok (f x y)) k
 
-  operation_back : (op : Binary) (a b : Expr) (x y : Term) → term_by exact ns tbl a ≡ Ok x → term_by exact ns tbl b ≡ Ok y → term_by exact ns tbl (operation op a b) ≡ Ok (binary op x y)
+  operation_back : (op : Binary) (a b : Expr) (x y : Term) → term_by exact ns [] tbl a ≡ Ok x → term_by exact ns [] tbl b ≡ Ok y → term_by exact ns [] tbl (operation op a b) ≡ Ok (binary op x y)
   operation_back plus a b x y h k = both_back (binary plus) a b x y h k
   operation_back minus a b x y h k = both_back (binary minus) a b x y h k
   operation_back times a b x y h k = both_back (binary times) a b x y h k
@@ -32,14 +33,14 @@ module _ (laws : Ratios) (ns : Names) (tbl : Table) where
   operation_back least a b x y h k = both_back (binary least) a b x y h k
   operation_back greatest a b x y h k = both_back (binary greatest) a b x y h k
 
-  leaf_back : (l : Leaf) → IsPrintableLeaf ns l → term_by exact ns tbl (canonical_leaf ns l) ≡ Ok (leaf l)
+  leaf_back : (l : Leaf) → IsPrintableLeaf ns l → term_by exact ns [] tbl (canonical_leaf ns l) ≡ Ok (leaf l)
   leaf_back (number m s) h = ap (λ d. Ok (number_by d)) (decimal_of-text m s h)
   leaf_back (parameter q) h = ap (known _) (h.1 (pos 0))
   leaf_back (variable x k) h =
       ap (λ j. known (variable_name ns x) (named_term ns (variable_name ns x) j)) (shift_of-canonical k) ∙ ap (known (variable_name ns x)) (h.1 k)
   leaf_back (steady_state v) h = absurd h
 
-  pub term_back : (t : Term) → IsPrintableTerm ns t → term_by exact ns tbl (canonical ns t) ≡ Ok t
+  pub term_back : (t : Term) → IsPrintableTerm ns t → term_by exact ns [] tbl (canonical ns t) ≡ Ok t
   unfolding canonical
   term_back (leaf l) h = leaf_back l h
   term_back (negative a) h =

@@ -3,9 +3,9 @@ use Rattle.std.specs.Prelude.{ℕ, List, [], ◌∷◌, ◌++◌, map}
 use Rattle.mp_syntax.specs.Syntax.{Named, Expr}
 use Rattle.mp_statements.specs.declared.kind.NameKind.{NameKind}
 use Rattle.mp_statements.specs.declared.kind.NameKind.TheVariants as kind
-use Rattle.mp_statements.specs.Statements.{Item, Statement, Declares, Assigns, Model}
+use Rattle.mp_statements.specs.Statements.{Item, Statement, Declares, Assigns, Model, Notes}
 
--- the declared names by kind, the names that are given values with their expressions, and the equations, each in text order
+-- the declared names by kind, the names that are given values with their expressions, and the items of the model, each in text order
 pub record Contents : Type 0 where
   pub endogenous : List (List ℕ)
   pub exogenous : List (List ℕ)
@@ -34,7 +34,8 @@ declared_names kind.Parameter names = record { endogenous = []; exogenous = []; 
 abbrev pub contents_in : Statement → Contents
 contents_in (Declares kind names) = declared_names kind (map (λ (n : Named). n.name) names)
 contents_in (Assigns name value) = record { endogenous = []; exogenous = []; parameters = []; assignments = (name.name, value) ∷ []; items = [] }
-contents_in (Model at items) = record { endogenous = []; exogenous = []; parameters = []; assignments = []; items = items }
+contents_in (Model at choices items) = record { endogenous = []; exogenous = []; parameters = []; assignments = []; items = items }
+contents_in (Notes command names) = nothing
 
 -- what a file holds
 abbrev pub contents_of : List Statement → Contents

@@ -1,8 +1,8 @@
--- The exponents of several equations.
+-- The exponents of several statements.
 use Rattle.std.proofs.Common.{◌≡◌, ℕ, ℤ, ◌+◌, ◌<◌, List, [], ◌∷◌, ◌++◌, append_assoc, map, length, drop, get_or, Result, Ok, Err, refl, sym, ap, ◌∙◌}
 use Rattle.std.proofs.lemmas.List.{drop_more}
 use Rattle.mp_statements.specs.Statements.{Item}
-use Rattle.mp_statements.specs.Parts.{items_in, equations_of}
+use Rattle.mp_statements.specs.Parts.{items_in, items_of}
 use Rattle.mp_file.specs.declared.Statement.{Statement}
 use Rattle.mp_file.specs.Shown.{statement_of}
 use Rattle.mp_values.specs.Table.{Table}
@@ -29,17 +29,17 @@ exponents-append t [] ys = none-joined (all_exponents t ys)
 exponents-append t (x ∷ xs) ys =
     ap (joined (item_exponents t x)) (exponents-append t xs ys) ∙ joined-joined (item_exponents t x) (all_exponents t xs) (all_exponents t ys)
 
-module _ (t : Table) (xs : List Statement) (i : ℕ) (x d : Statement) (found : List ℤ) (whole : Folded (List ℤ)) (within : i < length xs) (is : x ≡ get_or xs i d) (so_far : after found (all_exponents t (equations_of (map statement_of (drop i xs)))) ≡ whole) where
-  here : (after found (all_exponents t (items_in (statement_of x))) >>= λ middle. after middle (all_exponents t (equations_of (map statement_of (drop (i + 1) xs))))) ≡ whole
+module _ (t : Table) (xs : List Statement) (i : ℕ) (x d : Statement) (found : List ℤ) (whole : Folded (List ℤ)) (within : i < length xs) (is : x ≡ get_or xs i d) (so_far : after found (all_exponents t (items_of (map statement_of (drop i xs)))) ≡ whole) where
+  here : (after found (all_exponents t (items_in (statement_of x))) >>= λ middle. after middle (all_exponents t (items_of (map statement_of (drop (i + 1) xs))))) ≡ whole
   here =
-      sym (ap (λ l. after found (all_exponents t (equations_of (map statement_of l)))) (drop_more xs i d within ∙ ap (λ y. y ∷ drop (i + 1) xs) (sym is))
-      ∙ ap (after found) (exponents-append t (items_in (statement_of x)) (equations_of (map statement_of (drop (i + 1) xs))))
-      ∙ after_joined found (all_exponents t (items_in (statement_of x))) (all_exponents t (equations_of (map statement_of (drop (i + 1) xs)))))
+      sym (ap (λ l. after found (all_exponents t (items_of (map statement_of l)))) (drop_more xs i d within ∙ ap (λ y. y ∷ drop (i + 1) xs) (sym is))
+      ∙ ap (after found) (exponents-append t (items_in (statement_of x)) (items_of (map statement_of (drop (i + 1) xs))))
+      ∙ after_joined found (all_exponents t (items_in (statement_of x))) (all_exponents t (items_of (map statement_of (drop (i + 1) xs)))))
       ∙ so_far
 
-  pub turn_goes : (u : Unit {0}) (new : List ℤ) → (let r : Result (Unit {0}) ExponentFault = Ok u in Adds r found new (all_exponents t (items_in (statement_of x)))) → after new (all_exponents t (equations_of (map statement_of (drop (i + 1) xs)))) ≡ whole
-  turn_goes u new e = sym (ap (λ r. r >>= λ middle. after middle (all_exponents t (equations_of (map statement_of (drop (i + 1) xs))))) e) ∙ here
+  pub turn_goes : (u : Unit {0}) (new : List ℤ) → (let r : Result (Unit {0}) ExponentFault = Ok u in Adds r found new (all_exponents t (items_in (statement_of x)))) → after new (all_exponents t (items_of (map statement_of (drop (i + 1) xs)))) ≡ whole
+  turn_goes u new e = sym (ap (λ r. r >>= λ middle. after middle (all_exponents t (items_of (map statement_of (drop (i + 1) xs))))) e) ∙ here
 
   pub turn_stops : (e : ExponentFault) (new : List ℤ) → (let r : Result (Unit {0}) ExponentFault = Err e in Adds r found new (all_exponents t (items_in (statement_of x)))) → Fails e whole
-  turn_stops (Refused f) new h = sym here ∙ ap (λ r. r >>= λ middle. after middle (all_exponents t (equations_of (map statement_of (drop (i + 1) xs))))) h
+  turn_stops (Refused f) new h = sym here ∙ ap (λ r. r >>= λ middle. after middle (all_exponents t (items_of (map statement_of (drop (i + 1) xs))))) h
   turn_stops NoMemory new h = tt

@@ -1,11 +1,10 @@
 -- A loop that seeks a point, turn by turn.
-use Rattle.std.proofs.Common.{◌≡◌, ℕ, ◌+◌, ◌<◌, ◌≤◌, List, [], ◌∷◌, ◌++◌, length, drop, get_or, Bool, true, false, cond, option_map, Option, Some, None, refl, sym, ap, ◌∙◌}
+use Rattle.std.proofs.Common.{◌≡◌, ℕ, ◌+◌, ◌<◌, ◌≤◌, List, [], ◌∷◌, ◌++◌, length, drop, get_or, Bool, true, false, cond, ◌||◌, option_map, Option, Some, None, is_some, refl, sym, ap, ◌∙◌}
 use Rattle.std.specs.Prelude.{find}
+use Rattle.std.specs.List.{list_any}
 use Rattle.std.specs.Option.{option_or}
 use Rattle.std.proofs.Math.ListN.{drop_of_length-le}
 use Rattle.std.proofs.lemmas.List.{drop_more}
-use Rattle.mp_declared.specs.Points.{Point}
-use Rattle.mp_declared.specs.Shifts.{reach_of, is_far, first_far}
 use Rattle.std.proofs.lemmas.List.Folds.{find-append}
 
 -- among two lists, the first has none
@@ -35,11 +34,15 @@ pub pair_found : {X : Type 0} (test : X → Bool) (all xs ys : List X) (r p q : 
 pair_found test all xs ys r p q two first second is =
     is ∙ ap (λ u. option_or u q) first ∙ ap (option_or (find test xs)) second ∙ sym (find-append test xs ys) ∙ ap (find test) (sym two)
 
--- the first far name is the first one that is far
-pub first_far-find : (ps : List Point) → first_far ps ≡ option_map reach_of (find (λ p. is_far (reach_of p)) ps)
-first_far-find [] = refl
-first_far-find (p ∷ ps) = by (is_far (reach_of p)) (first_far-find ps)
+-- there is one exactly where one is found
+pub is_some-find : {X : Type 0} (test : X → Bool) (xs : List X) → is_some (find test xs) ≡ list_any test xs
+is_some-find test [] = refl
+is_some-find test (x ∷ xs) = by (test x) (is_some-find test xs)
   where
-    by : (b : Bool) → first_far ps ≡ option_map reach_of (find (λ q. is_far (reach_of q)) ps) → cond b (Some (reach_of p)) (first_far ps) ≡ option_map reach_of (cond b (Some p) (find (λ q. is_far (reach_of q)) ps))
+    by : (b : Bool) → is_some (find test xs) ≡ list_any test xs → is_some (cond b (Some x) (find test xs)) ≡ (b || list_any test xs)
     by true further = refl
     by false further = further
+
+pub is_some-map : {X Y : Type 0} (view : X → Y) (r : Option X) → is_some r ≡ is_some (option_map view r)
+is_some-map view None = refl
+is_some-map view (Some x) = refl

@@ -31,12 +31,14 @@ read_early-same given other [] same = refl
 read_early-same given other (f.Declares kind names ∷ file) same = read_early-same given other file same
 read_early-same given other (f.Assigns name value ∷ file) same =
     λ i. option_or (find-same given other (names_read (reads Constant value)) same i) (read_early-same (name.name ∷ given) (name.name ∷ other) file (or-same (name.name ∷ []) given other same) i)
-read_early-same given other (f.Model at items ∷ file) same = read_early-same given other file same
+read_early-same given other (f.Model at choices items ∷ file) same = read_early-same given other file same
+read_early-same given other (f.Notes command names ∷ file) same = read_early-same given other file same
 
 read_early-more : (given : List (List ℕ)) (x : f.Statement) (file : List f.Statement) → read_early given (x ∷ file) ≡ option_or (early_in given x) (read_early (assigned_in x ++ given) file)
 read_early-more given (f.Declares kind names) file = refl
 read_early-more given (f.Assigns name value) file = refl
-read_early-more given (f.Model at items) file = refl
+read_early-more given (f.Model at choices items) file = refl
+read_early-more given (f.Notes command names) file = refl
 
 or_moved : (a g r : Bool) → ((a || g) || r) ≡ (g || (a || r))
 or_moved true true r = refl

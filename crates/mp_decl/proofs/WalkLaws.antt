@@ -1,21 +1,23 @@
 -- The walk over all points of a file ends at the first point that fails by what stands before it.
-use Rattle.std.proofs.Common.{◌≡◌, ℕ, List, [], ◌∷◌, ◌++◌, map, Bool, true, false, ◌||◌, Option, Some, None, is_some, if◌then◌else◌, Ok, refl, sym, ap, ◌∙◌, append-nil, append_assoc, true≢false}
+use Rattle.std.proofs.Common.{◌≡◌, ℕ, List, [], ◌∷◌, ◌++◌, map, codes, Bool, true, false, ◌||◌, Option, Some, None, if◌then◌else◌, Result, Ok, Err, refl, sym, ap, subst, ◌∙◌, append-nil, append_assoc}
 use Rattle.std.specs.List.{list_any, flat_map}
 use Rattle.std.specs.Option.{option_or}
+use Rattle.std.specs.Str.{bytes_eq}
 use Rattle.std.proofs.lemmas.Grind.{flat_map-append}
 use Rattle.std.proofs.lemmas.List.Folds.{list_any-append}
 use Rattle.mp_base.specs.declared.kinds.DeclKind.TheVariants as k
+use Rattle.mp_syntax.specs.Syntax.{Named}
 use Rattle.mp_statements.specs.declared.kind.NameKind.{NameKind}
 use Rattle.mp_statements.specs.declared.kind.NameKind.TheVariants as kind
 use Rattle.mp_statements.specs.Statements.{Statement}
 use Rattle.mp_statements.specs.Parts.{is_kind}
 use Rattle.mp_values.specs.Names.{Names}
-use Rattle.mp_names.specs.Named.{no_names, kind_in}
-use Rattle.mp_declared.specs.Points.{Point, Declared, Assigned, Begins, Reads, points_of, with_earlier}
-use Rattle.mp_declared.specs.Declared.{Fault, begins, kind_of, fault_if, first_fault, assigned_fault, read_fault, fault_at, walk_fault}
+use Rattle.mp_names.specs.Named.{with_name}
+use Rattle.mp_declared.specs.Points.{Point, Declared, Assigned, Begins, Chosen, Defines, Defined, Reads, Differs, Tagged, Noted, points_of, with_earlier}
+use Rattle.mp_declared.specs.Declared.{Standing, Fault, begins, gives_option, standing_of, fault_if, first_fault, new_fault, assigned_fault, option_fault, read_fault, noted_fault, fault_at, walk_fault}
 use Rattle.mp_decl.specs.declared.known.Known.{Known}
-use Rattle.mp_decl.specs.Walk.{with_point, point_fault, unless, walk}
-use Rattle.mp_decl.proofs.Agreement.{kind_in-with_name, is_some-kind_of, kind_of-append}
+use Rattle.mp_decl.specs.Walk.{nothing_known, standing_in, with_point, point_fault, unless, walk}
+use Rattle.mp_decl.proofs.Agreement.{standing_of-append, standing_in-declared, standing_in-defined, any-with_new}
 
 -- the names of a kind that a point declares
 abbrev pub names_at : NameKind → Point → List (List ℕ)
@@ -29,19 +31,26 @@ known_names points = record {
   parameters = flat_map (names_at kind.Parameter) points;
 }
 
--- what is known after these points
-abbrev pub known_of : List Point → Known
-known_of points = record { names = known_names points; begun = list_any begins points }
+-- what is known is what these points say
+pub record Knows (points : List Point) (f : Known) : Type 0 where
+  pub names : f.names ≡ known_names points
+  pub standing : (name : List ℕ) → standing_in f name ≡ standing_of name points
+  pub begun : f.begun ≡ list_any begins points
+  pub chosen : (name : List ℕ) → list_any (bytes_eq name) f.chosen ≡ list_any (gives_option name) points
 
--- what is known of each name is its first declaration
-abbrev Agrees : List Point → Type 0
-Agrees earlier = (name : List ℕ) → kind_in (known_names earlier) name ≡ kind_of name earlier
+fault-knows : (earlier : List Point) (f : Known) → Knows earlier f → (p : Point) → point_fault f p ≡ fault_at earlier p
+fault-knows earlier f knows (Declared kind n) = ap (new_fault n) (knows.standing n.name)
+fault-knows earlier f knows (Assigned n) = ap (assigned_fault n) (knows.standing n.name)
+fault-knows earlier f knows (Begins at) = ap (λ b. fault_if b k.BlockTwice (codes "model") at) knows.begun
+fault-knows earlier f knows (Chosen c) = ap (option_fault c) (knows.chosen c.name.name)
+fault-knows earlier f knows (Defines n) = ap (new_fault n) (knows.standing n.name)
+fault-knows earlier f knows (Defined n) = refl
+fault-knows earlier f knows (Reads r n shift) = ap (read_fault r n shift) (knows.standing n.name)
+fault-knows earlier f knows (Differs r at) = refl
+fault-knows earlier f knows (Tagged before t) = refl
+fault-knows earlier f knows (Noted n) = ap (noted_fault n) (knows.standing n.name)
 
-fault-known_of : (earlier : List Point) → Agrees earlier → (p : Point) → point_fault (known_of earlier) p ≡ fault_at earlier p
-fault-known_of earlier agrees (Declared kind n) = ap (λ b. fault_if b k.Twice n.name n.at) (ap is_some (agrees n.name) ∙ is_some-kind_of n.name earlier)
-fault-known_of earlier agrees (Assigned n) = ap (assigned_fault n) (agrees n.name)
-fault-known_of earlier agrees (Begins at) = refl
-fault-known_of earlier agrees (Reads r n shift) = ap (read_fault r n shift) (agrees n.name)
+-- ---- one more point
 
 or_false : (b : Bool) → b ≡ (b || false)
 or_false true = refl
@@ -51,73 +60,95 @@ or_true : (b : Bool) → true ≡ (b || true)
 or_true true = refl
 or_true false = refl
 
-same_known : {xs xs' ys ys' zs zs' : List (List ℕ)} {b b' : Bool} → xs ≡ xs' → ys ≡ ys' → zs ≡ zs' → b ≡ b'
-    → (let a : Known = record { names = record { endogenous = xs; exogenous = ys; parameters = zs }; begun = b } in a) ≡ record { names = record { endogenous = xs'; exogenous = ys'; parameters = zs' }; begun = b' }
-same_known e f g h = λ i. record { names = record { endogenous = e i; exogenous = f i; parameters = g i }; begun = h i }
+or_none : {X : Type 0} (r : Option X) → r ≡ option_or r None
+or_none None = refl
+or_none (Some x) = refl
 
 -- the names of a kind after one more point
 names-more : (k : NameKind) (earlier : List Point) (p : Point) → flat_map (names_at k) (earlier ++ p ∷ []) ≡ flat_map (names_at k) earlier ++ names_at k p
 names-more k earlier p = flat_map-append (names_at k) earlier (p ∷ []) ∙ ap (λ l. flat_map (names_at k) earlier ++ l) (append-nil (names_at k p))
 
-none-more : (k : NameKind) (earlier : List Point) (p : Point) → names_at k p ≡ [] → flat_map (names_at k) earlier ≡ flat_map (names_at k) (earlier ++ p ∷ [])
-none-more k earlier p none = sym (names-more k earlier p ∙ ap (λ l. flat_map (names_at k) earlier ++ l) none ∙ append-nil (flat_map (names_at k) earlier))
+module _ (earlier : List Point) (p : Point) where
+  none-more : (k : NameKind) → names_at k p ≡ [] → flat_map (names_at k) earlier ≡ flat_map (names_at k) (earlier ++ p ∷ [])
+  none-more k none = sym (names-more k earlier p ∙ ap (λ l. flat_map (names_at k) earlier ++ l) none ∙ append-nil (flat_map (names_at k) earlier))
 
-not-begun : (earlier : List Point) (p : Point) → begins p ≡ false → list_any begins earlier ≡ list_any begins (earlier ++ p ∷ [])
-not-begun earlier p none = or_false (list_any begins earlier) ∙ ap (λ b. list_any begins earlier || (b || false)) (sym none) ∙ sym (list_any-append begins earlier (p ∷ []))
+  names-kept : ((k : NameKind) → names_at k p ≡ []) → known_names earlier ≡ known_names (earlier ++ p ∷ [])
+  names-kept none = λ i. record {
+    endogenous = none-more kind.Endogenous (none kind.Endogenous) i;
+    exogenous = none-more kind.Exogenous (none kind.Exogenous) i;
+    parameters = none-more kind.Parameter (none kind.Parameter) i;
+  }
 
-with-known_of : (earlier : List Point) (p : Point) → with_point (known_of earlier) p ≡ known_of (earlier ++ p ∷ [])
-with-known_of earlier (Declared kind.Endogenous n) =
-    let p = Declared kind.Endogenous n in
-    same_known (sym (names-more kind.Endogenous earlier p)) (none-more kind.Exogenous earlier p refl) (none-more kind.Parameter earlier p refl) (not-begun earlier p refl)
-with-known_of earlier (Declared kind.Exogenous n) =
-    let p = Declared kind.Exogenous n in
-    same_known (none-more kind.Endogenous earlier p refl) (sym (names-more kind.Exogenous earlier p)) (none-more kind.Parameter earlier p refl) (not-begun earlier p refl)
-with-known_of earlier (Declared kind.Parameter n) =
-    let p = Declared kind.Parameter n in
-    same_known (none-more kind.Endogenous earlier p refl) (none-more kind.Exogenous earlier p refl) (sym (names-more kind.Parameter earlier p)) (not-begun earlier p refl)
-with-known_of earlier (Assigned n) =
-    let p = Assigned n in
-    same_known (none-more kind.Endogenous earlier p refl) (none-more kind.Exogenous earlier p refl) (none-more kind.Parameter earlier p refl) (not-begun earlier p refl)
-with-known_of earlier (Begins at) =
-    let p = Begins at in
-    same_known (none-more kind.Endogenous earlier p refl) (none-more kind.Exogenous earlier p refl) (none-more kind.Parameter earlier p refl) (or_true (list_any begins earlier) ∙ sym (list_any-append begins earlier (p ∷ [])))
-with-known_of earlier (Reads r n shift) =
-    let p = Reads r n shift in
-    same_known (none-more kind.Endogenous earlier p refl) (none-more kind.Exogenous earlier p refl) (none-more kind.Parameter earlier p refl) (not-begun earlier p refl)
+  any-kept : (test : Point → Bool) → test p ≡ false → list_any test earlier ≡ list_any test (earlier ++ p ∷ [])
+  any-kept test none = or_false (list_any test earlier) ∙ ap (λ b. list_any test earlier || (b || false)) (sym none) ∙ sym (list_any-append test earlier (p ∷ []))
 
-or_none : {X : Type 0} (r : Option X) → option_or r None ≡ r
-or_none None = refl
-or_none (Some x) = refl
+  standing-kept : (name : List ℕ) → standing_of name (p ∷ []) ≡ None → standing_of name earlier ≡ standing_of name (earlier ++ p ∷ [])
+  standing-kept name none = or_none (standing_of name earlier) ∙ ap (option_or (standing_of name earlier)) (sym none) ∙ sym (standing_of-append name earlier (p ∷ []))
 
--- a point that declares nothing changes no kind
-same-kinds : (earlier : List Point) (p : Point) → ((name : List ℕ) → kind_of name (p ∷ []) ≡ None) → (known_of earlier).names ≡ (known_of (earlier ++ p ∷ [])).names → Agrees earlier → Agrees (earlier ++ p ∷ [])
-same-kinds earlier p none same agrees name =
-    ap (λ (ns : Names). kind_in ns name) (sym same)
-    ∙ agrees name
-    ∙ sym (kind_of-append name earlier (p ∷ []) ∙ ap (option_or (kind_of name earlier)) (none name) ∙ or_none (kind_of name earlier))
+  -- a point that says nothing of names, options and the block
+  all-kept : (f : Known) → ((k : NameKind) → names_at k p ≡ []) → ((name : List ℕ) → standing_of name (p ∷ []) ≡ None) → begins p ≡ false → ((name : List ℕ) → gives_option name p ≡ false) → Knows earlier f → Knows (earlier ++ p ∷ []) f
+  all-kept f no_names no_standing no_block no_option knows = record {
+    names = knows.names ∙ names-kept no_names;
+    standing = λ name. knows.standing name ∙ standing-kept name (no_standing name);
+    begun = knows.begun ∙ any-kept begins no_block;
+    chosen = λ name. knows.chosen name ∙ any-kept (gives_option name) (no_option name);
+  }
 
-is_none : {X : Type 0} (r : Option X) → is_some r ≡ false → r ≡ None
-is_none None e = refl
-is_none (Some x) e = absurd (true≢false e)
+with-declared : (earlier : List Point) (kind' : NameKind) (n : Named) → with_name kind' n.name (known_names earlier) ≡ known_names (earlier ++ Declared kind' n ∷ [])
+with-declared earlier kind.Endogenous n = λ i. record {
+  endogenous = sym (names-more kind.Endogenous earlier (Declared kind.Endogenous n)) i;
+  exogenous = none-more earlier (Declared kind.Endogenous n) kind.Exogenous refl i;
+  parameters = none-more earlier (Declared kind.Endogenous n) kind.Parameter refl i;
+}
+with-declared earlier kind.Exogenous n = λ i. record {
+  endogenous = none-more earlier (Declared kind.Exogenous n) kind.Endogenous refl i;
+  exogenous = sym (names-more kind.Exogenous earlier (Declared kind.Exogenous n)) i;
+  parameters = none-more earlier (Declared kind.Exogenous n) kind.Parameter refl i;
+}
+with-declared earlier kind.Parameter n = λ i. record {
+  endogenous = none-more earlier (Declared kind.Parameter n) kind.Endogenous refl i;
+  exogenous = none-more earlier (Declared kind.Parameter n) kind.Exogenous refl i;
+  parameters = sym (names-more kind.Parameter earlier (Declared kind.Parameter n)) i;
+}
 
-not_wrong : (b : Bool) (d : _) (name : List ℕ) (at : ℕ) → fault_if b d name at ≡ None → b ≡ false
-not_wrong false d name at e = refl
-not_wrong true d name at e = absurd cc
+new-none : (n : Named) (r : Option Standing) → new_fault n r ≡ None → r ≡ None
+new-none n None e = refl
+new-none n (Some s) e = absurd cc
 
 -- after a point without fault
-agrees-on : (earlier : List Point) (p : Point) → fault_at earlier p ≡ None → Agrees earlier → Agrees (earlier ++ p ∷ [])
-agrees-on earlier (Declared k n) fine agrees =
-    λ name.
-    let p = Declared k n in
-    let undeclared = not_wrong _ _ _ _ fine in
-    let new : kind_in (known_names earlier) n.name ≡ None = is_none _ (ap is_some (agrees n.name) ∙ is_some-kind_of n.name earlier ∙ undeclared) in
-    ap (λ (f : Known). kind_in f.names name) (sym (with-known_of earlier p))
-    ∙ kind_in-with_name (known_names earlier) k n.name name new
-    ∙ ap (λ r. option_or r (kind_of name (p ∷ []))) (agrees name)
-    ∙ sym (kind_of-append name earlier (p ∷ []))
-agrees-on earlier (Assigned n) fine agrees = same-kinds earlier (Assigned n) (λ name. refl) (ap (λ (f : Known). f.names) (with-known_of earlier (Assigned n))) agrees
-agrees-on earlier (Begins at) fine agrees = same-kinds earlier (Begins at) (λ name. refl) (ap (λ (f : Known). f.names) (with-known_of earlier (Begins at))) agrees
-agrees-on earlier (Reads r n shift) fine agrees = same-kinds earlier (Reads r n shift) (λ name. refl) (ap (λ (f : Known). f.names) (with-known_of earlier (Reads r n shift))) agrees
+knows-on : (earlier : List Point) (f : Known) (p : Point) → fault_at earlier p ≡ None → Knows earlier f → Knows (earlier ++ p ∷ []) (with_point f p)
+knows-on earlier f (Declared k n) fine knows = record {
+  names = ap (with_name k n.name) knows.names ∙ with-declared earlier k n;
+  standing = λ name. standing_in-declared f k n name (knows.standing n.name ∙ new-none n _ fine) ∙ ap (λ r. option_or r (standing_of name (Declared k n ∷ []))) (knows.standing name) ∙ sym (standing_of-append name earlier (Declared k n ∷ []));
+  begun = knows.begun ∙ any-kept earlier (Declared k n) begins refl;
+  chosen = λ name. knows.chosen name ∙ any-kept earlier (Declared k n) (gives_option name) refl;
+}
+knows-on earlier f (Begins at) fine knows = record {
+  names = knows.names ∙ names-kept earlier (Begins at) (λ k. refl);
+  standing = λ name. knows.standing name ∙ standing-kept earlier (Begins at) name refl;
+  begun = or_true (list_any begins earlier) ∙ sym (list_any-append begins earlier (Begins at ∷ []));
+  chosen = λ name. knows.chosen name ∙ any-kept earlier (Begins at) (gives_option name) refl;
+}
+knows-on earlier f (Chosen c) fine knows = record {
+  names = knows.names ∙ names-kept earlier (Chosen c) (λ k. refl);
+  standing = λ name. knows.standing name ∙ standing-kept earlier (Chosen c) name refl;
+  begun = knows.begun ∙ any-kept earlier (Chosen c) begins refl;
+  chosen = λ name. any-with_new name c.name.name f.chosen ∙ ap (λ b. b || bytes_eq name c.name.name) (knows.chosen name) ∙ ap (λ b. list_any (gives_option name) earlier || b) (or_false (bytes_eq name c.name.name)) ∙ sym (list_any-append (gives_option name) earlier (Chosen c ∷ []));
+}
+knows-on earlier f (Defined n) fine knows = record {
+  names = knows.names ∙ names-kept earlier (Defined n) (λ k. refl);
+  standing = λ name. standing_in-defined f n name ∙ ap (λ r. option_or r (standing_of name (Defined n ∷ []))) (knows.standing name) ∙ sym (standing_of-append name earlier (Defined n ∷ []));
+  begun = knows.begun ∙ any-kept earlier (Defined n) begins refl;
+  chosen = λ name. knows.chosen name ∙ any-kept earlier (Defined n) (gives_option name) refl;
+}
+knows-on earlier f (Assigned n) fine knows = all-kept earlier (Assigned n) f (λ k. refl) (λ name. refl) refl (λ name. refl) knows
+knows-on earlier f (Defines n) fine knows = all-kept earlier (Defines n) f (λ k. refl) (λ name. refl) refl (λ name. refl) knows
+knows-on earlier f (Reads r n shift) fine knows = all-kept earlier (Reads r n shift) f (λ k. refl) (λ name. refl) refl (λ name. refl) knows
+knows-on earlier f (Differs r at) fine knows = all-kept earlier (Differs r at) f (λ k. refl) (λ name. refl) refl (λ name. refl) knows
+knows-on earlier f (Tagged before t) fine knows = all-kept earlier (Tagged before t) f (λ k. refl) (λ name. refl) refl (λ name. refl) knows
+knows-on earlier f (Noted n) fine knows = all-kept earlier (Noted n) f (λ k. refl) (λ name. refl) refl (λ name. refl) knows
+
+-- ---- all points
 
 -- the faults of these points, which stand after the earlier ones
 abbrev faults : List Point → List (List Point × Point) → List (Option Fault)
@@ -127,24 +158,27 @@ faults-moved : (earlier : List Point) (p : Point) (points : List (List Point × 
 faults-moved earlier p [] = refl
 faults-moved earlier p (q ∷ points) = λ i. fault_at (append_assoc earlier (p ∷ []) q.0 i) q.1 ∷ faults-moved earlier p points i
 
--- after the first point
-walk-more : (earlier : List Point) (p : Point) (ps : List Point) (r : Option Fault)
-    → (r ≡ None → walk (known_of (earlier ++ p ∷ [])) ps ≡ unless (first_fault (faults (earlier ++ p ∷ []) (with_earlier ps))) (Ok (known_of ((earlier ++ p ∷ []) ++ ps))))
-    → unless r (walk (known_of (earlier ++ p ∷ [])) ps) ≡ unless (first_fault (r ∷ faults earlier (map (λ q. (p ∷ q.0, q.1)) (with_earlier ps)))) (Ok (known_of (earlier ++ p ∷ ps)))
-walk-more earlier p ps (Some f) further = refl
-walk-more earlier p ps None further =
-    further refl
-    ∙ ap (λ fs. unless (first_fault fs) (Ok (known_of ((earlier ++ p ∷ []) ++ ps)))) (faults-moved earlier p (with_earlier ps))
-    ∙ ap (λ l. unless (first_fault (faults earlier (map (λ q. (p ∷ q.0, q.1)) (with_earlier ps)))) (Ok (known_of l))) (append_assoc earlier (p ∷ []) ps)
+-- the walk ended at this fault, or knows what all the points say
+abbrev pub Ends : List Point → Option Fault → Result Known Fault → Type 0
+Ends points fault (Ok f) = (fault ≡ None) × Knows points f
+Ends points fault (Err x) = fault ≡ Some x
 
-walk-known_of : (earlier points : List Point) → Agrees earlier → walk (known_of earlier) points ≡ unless (first_fault (faults earlier (with_earlier points))) (Ok (known_of (earlier ++ points)))
-walk-known_of earlier [] agrees = ap (λ l. Ok (known_of l)) (sym (append-nil earlier))
-walk-known_of earlier (p ∷ ps) agrees =
-    ap (λ r. unless r (walk (with_point (known_of earlier) p) ps)) (fault-known_of earlier agrees p)
-    ∙ ap (λ j. unless (fault_at earlier p) (walk j ps)) (with-known_of earlier p)
-    ∙ walk-more earlier p ps (fault_at earlier p) (λ fine. walk-known_of (earlier ++ p ∷ []) ps (agrees-on earlier p fine agrees))
-    ∙ ap (λ l. unless (first_fault (fault_at l p ∷ faults earlier (map (λ q. (p ∷ q.0, q.1)) (with_earlier ps)))) (Ok (known_of (earlier ++ p ∷ ps)))) (sym (append-nil earlier))
+-- after the first point
+ends-more : (earlier : List Point) (p : Point) (ps : List Point) (f : Known) (r : Option Fault)
+    → (r ≡ None → Ends ((earlier ++ p ∷ []) ++ ps) (first_fault (faults (earlier ++ p ∷ []) (with_earlier ps))) (walk (with_point f p) ps))
+    → Ends (earlier ++ p ∷ ps) (first_fault (r ∷ faults earlier (map (λ q. (p ∷ q.0, q.1)) (with_earlier ps)))) (unless r (walk (with_point f p) ps))
+ends-more earlier p ps f (Some x) further = refl
+ends-more earlier p ps f None further =
+    subst (λ l. Ends l (first_fault (faults earlier (map (λ q. (p ∷ q.0, q.1)) (with_earlier ps)))) (walk (with_point f p) ps)) (append_assoc earlier (p ∷ []) ps)
+    (subst (λ fs. Ends ((earlier ++ p ∷ []) ++ ps) (first_fault fs) (walk (with_point f p) ps)) (faults-moved earlier p (with_earlier ps)) (further refl))
+
+walk-ends : (earlier points : List Point) (f : Known) → Knows earlier f → Ends (earlier ++ points) (first_fault (faults earlier (with_earlier points))) (walk f points)
+walk-ends earlier [] f knows = (refl, subst (λ l. Knows l f) (sym (append-nil earlier)) knows)
+walk-ends earlier (p ∷ ps) f knows =
+    subst (λ r. Ends (earlier ++ p ∷ ps) (first_fault (fault_at (earlier ++ []) p ∷ faults earlier (map (λ q. (p ∷ q.0, q.1)) (with_earlier ps)))) (unless r (walk (with_point f p) ps))) (sym (fault-knows earlier f knows p))
+    (subst (λ l. Ends (earlier ++ p ∷ ps) (first_fault (fault_at l p ∷ faults earlier (map (λ q. (p ∷ q.0, q.1)) (with_earlier ps)))) (unless (fault_at earlier p) (walk (with_point f p) ps))) (sym (append-nil earlier))
+    (ends-more earlier p ps f (fault_at earlier p) (λ fine. walk-ends (earlier ++ p ∷ []) ps (with_point f p) (knows-on earlier f p fine knows))))
 
 -- the walk gives the first fault, or what is known after all points
-pub walk-file : (file : List Statement) → walk (record { names = no_names; begun = false }) (points_of file) ≡ unless (walk_fault file) (Ok (known_of (points_of file)))
-walk-file file = walk-known_of [] (points_of file) (λ name. refl)
+pub walk-file : (file : List Statement) → Ends (points_of file) (walk_fault file) (walk nothing_known (points_of file))
+walk-file file = walk-ends [] (points_of file) nothing_known (record { names = refl; standing = λ name. refl; begun = refl; chosen = λ name. refl })

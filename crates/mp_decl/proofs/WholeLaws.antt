@@ -1,34 +1,63 @@
--- The first fault of a file is that of its walk, or of what is counted, or of its values.
-use Rattle.std.proofs.Common.{◌≡◌, ℕ, List, [], ◌∷◌, ◌++◌, map, length, Bool, true, false, cond, not, ◌==◌, Option, Some, None, Result, Ok, Err, refl, sym, ap, subst, ◌∙◌}
+-- The first fault of a file is that of its walk, or of the whole by what is known then.
+use Rattle.std.proofs.Common.{◌≡◌, ℕ, List, [], ◌∷◌, ◌++◌, map, Bool, true, false, cond, Option, Some, None, Result, Ok, Err, refl, sym, ap, subst, ◌∙◌}
 use Rattle.std.specs.Prelude.{IsErrAnd}
-use Rattle.std.specs.List.{flat_map}
+use Rattle.std.specs.List.{flat_map, AllByRecursion}
 use Rattle.std.proofs.lemmas.Grind.{flat_map-append}
-use Rattle.mp_base.specs.declared.kinds.DeclKind.TheVariants as d
 use Rattle.mp_statements.specs.declared.kind.NameKind.{NameKind}
 use Rattle.mp_statements.specs.declared.kind.NameKind.TheVariants as kind
 use Rattle.mp_syntax.specs.Syntax.{Named}
-use Rattle.mp_statements.specs.Statements.{Statement, Declares, Assigns, Model}
+use Rattle.mp_statements.specs.Statements.{Choice, Tag, Item, Local, Equates, Statement, Declares, Assigns, Model, Notes}
 use Rattle.mp_statements.specs.Parts as parts
+use Rattle.mp_statements.specs.Sides.{sides}
 use Rattle.mp_values.specs.Names.{Names, names_of}
-use Rattle.mp_names.specs.Named.{no_names}
-use Rattle.mp_declared.specs.Points.{Point, Declared, Assigned, Begins, Reads, Constant, reads, item_reads, points_in, points_of}
-use Rattle.mp_declared.specs.Declared.{Fault, fault_if, first_fault, has_model, value_fault, unvalued, walk_fault, whole_fault, declared_fault}
+use Rattle.mp_declared.specs.Points.{Point, Declared, Assigned, Begins, Chosen, Defines, Defined, Reads, Differs, Tagged, Noted, InModel, Constant, reads, tag_points, item_points, points_in, points_of}
+use Rattle.mp_declared.specs.Declared.{Fault, first_fault, has_model, walk_fault, whole_fault, declared_fault}
 use Rattle.mp_decl.specs.declared.fault.DeclFault.{DeclFault}
 use Rattle.mp_decl.specs.declared.fault.DeclFault.TheVariants as f
 use Rattle.mp_decl.specs.declared.known.Known.{Known}
-use Rattle.std.specs.List.{AllByRecursion}
-use Rattle.mp_decl.specs.Walk.{unless, walk}
+use Rattle.mp_decl.specs.Walk.{nothing_known, walk}
 use Rattle.mp_decl.specs.Walks.{Stops, Is, Finds}
-use Rattle.mp_decl.specs.Whole.{counted_fault, unvalued_in}
-use Rattle.mp_decl.proofs.ReadWalks.{IsRead, all-reads, all-items}
-use Rattle.mp_decl.proofs.WalkLaws.{names_at, known_names, known_of, walk-file}
+use Rattle.mp_decl.specs.Whole.{whole_fault_by}
+use Rattle.mp_decl.proofs.ReadWalks.{IsRead, all-reads, all-parts}
+use Rattle.mp_decl.proofs.WalkLaws.{names_at, known_names, Ends, walk-file}
 
-names-read : (k : NameKind) (ps : List Point) → AllByRecursion IsRead ps → flat_map (names_at k) ps ≡ []
-names-read k [] all = refl
-names-read k (Reads r n shift ∷ ps) all = names-read k ps all.1
-names-read k (Declared kind n ∷ ps) all = absurd all.0
-names-read k (Assigned n ∷ ps) all = absurd all.0
-names-read k (Begins at ∷ ps) all = absurd all.0
+module _ (k : NameKind) where
+  none-append : (ps qs : List Point) → flat_map (names_at k) ps ≡ [] → flat_map (names_at k) qs ≡ [] → flat_map (names_at k) (ps ++ qs) ≡ []
+  none-append ps qs first second = flat_map-append (names_at k) ps qs ∙ (λ i. first i ++ second i)
+
+  names-read : (ps : List Point) → AllByRecursion IsRead ps → flat_map (names_at k) ps ≡ []
+  names-read [] all = refl
+  names-read (Reads r n shift ∷ ps) all = names-read ps all.1
+  names-read (Differs r at ∷ ps) all = names-read ps all.1
+  names-read (Declared kind n ∷ ps) all = absurd all.0
+  names-read (Assigned n ∷ ps) all = absurd all.0
+  names-read (Begins at ∷ ps) all = absurd all.0
+  names-read (Chosen c ∷ ps) all = absurd all.0
+  names-read (Defines n ∷ ps) all = absurd all.0
+  names-read (Defined n ∷ ps) all = absurd all.0
+  names-read (Tagged before t ∷ ps) all = absurd all.0
+  names-read (Noted n ∷ ps) all = absurd all.0
+
+  names-tags : (before ts : List Tag) → flat_map (names_at k) (tag_points before ts) ≡ []
+  names-tags before [] = refl
+  names-tags before (t ∷ ts) = names-tags (before ++ t ∷ []) ts
+
+  names-item : (x : Item) → flat_map (names_at k) (item_points x) ≡ []
+  names-item (Local name value) = none-append (reads InModel value) (Defined name ∷ []) (names-read (reads InModel value) (all-reads InModel value)) refl
+  names-item (Equates x) =
+      none-append (tag_points [] x.tags) (flat_map (reads InModel) (sides x)) (names-tags [] x.tags) (names-read (flat_map (reads InModel) (sides x)) (all-parts (reads InModel) (sides x) (all-reads InModel)))
+
+  names-items : (items : List Item) → flat_map (names_at k) (flat_map item_points items) ≡ []
+  names-items [] = refl
+  names-items (x ∷ items) = none-append (item_points x) (flat_map item_points items) (names-item x) (names-items items)
+
+  names-chosen : (choices : List Choice) → flat_map (names_at k) (map Chosen choices) ≡ []
+  names-chosen [] = refl
+  names-chosen (c ∷ choices) = names-chosen choices
+
+  names-noted : (names : List Named) → flat_map (names_at k) (map Noted names) ≡ []
+  names-noted [] = refl
+  names-noted (n ∷ names) = names-noted names
 
 declared_by : (b : Bool) (name : List ℕ) (more : List (List ℕ)) → cond b (name ∷ []) [] ++ cond b more [] ≡ cond b (name ∷ more) []
 declared_by true name more = refl
@@ -46,7 +75,8 @@ names-declared k other (n ∷ names) =
 names-points_in : (k : NameKind) (s : Statement) → flat_map (names_at k) (points_in s) ≡ parts.names_in k s
 names-points_in k (Declares other names) = names-declared k other names
 names-points_in k (Assigns name value) = names-read k (reads Constant value) (all-reads Constant value)
-names-points_in k (Model at items) = names-read k (flat_map item_reads items) (all-items items)
+names-points_in k (Model at choices items) = none-append k (map Chosen choices) (flat_map item_points items) (names-chosen k choices) (names-items k items)
+names-points_in k (Notes command names) = names-noted k names
 
 names-points_of : (k : NameKind) (file : List Statement) → flat_map (names_at k) (points_of file) ≡ parts.names_of k file
 names-points_of k [] = refl
@@ -61,61 +91,35 @@ known_names-points_of file = λ i. record {
   parameters = names-points_of kind.Parameter file i;
 }
 
-went : (file : List Statement) (k : Known) → walk (record { names = no_names; begun = false }) (points_of file) ≡ Ok k → (walk_fault file ≡ None) × (known_of (points_of file) ≡ k)
-went file k e = by (walk_fault file) refl (sym (walk-file file) ∙ e)
-  where
-    by : (r : Option Fault) → walk_fault file ≡ r → unless r (Ok (known_of (points_of file))) ≡ Ok k → (walk_fault file ≡ None) × (known_of (points_of file) ≡ k)
-    by None e h = (e, cc)
-    by (Some f) e h = absurd cc
+module _ (file : List Statement) where
+  ended : (r : Result Known Fault) → walk nothing_known (points_of file) ≡ r → Ends (points_of file) (walk_fault file) r
+  ended r e = subst (Ends (points_of file) (walk_fault file)) e (walk-file file)
 
--- what is known after the walk are the names of the file
-pub known-names : (file : List Statement) (k : Known) → walk (record { names = no_names; begun = false }) (points_of file) ≡ Ok k → k.names ≡ names_of file
-known-names file k e = ap (λ (j : Known). j.names) (sym (went file k e).1) ∙ known_names-points_of file
+  -- what is known after the walk are the names of the file
+  pub known-names : (k : Known) → walk nothing_known (points_of file) ≡ Ok k → k.names ≡ names_of file
+  known-names k e = (ended (Ok k) e).1.names ∙ known_names-points_of file
 
-stopped : (file : List Statement) (f : Fault) → walk (record { names = no_names; begun = false }) (points_of file) ≡ Err f → walk_fault file ≡ Some f
-stopped file f stops = by (walk_fault file) (sym (walk-file file) ∙ stops)
-  where
-    by : (r : Option Fault) → unless r (Ok (known_of (points_of file))) ≡ Err f → r ≡ Some f
-    by None h = absurd cc
-    by (Some g) h =
-        let s : g ≡ f = cc in
-        ap Some s
+  stopped : (end : ℕ) (x : Fault) → walk nothing_known (points_of file) ≡ Err x → declared_fault end file ≡ Some x
+  stopped end x e = ap (λ r. first_fault (r ∷ whole_fault end file ∷ [])) (ended (Err x) e)
 
--- the walk stopped
-pub declared_fault-stops : (end : ℕ) (file : List Statement) (fault : DeclFault) → Stops fault (walk (record { names = no_names; begun = false }) (points_of file)) → Is fault (declared_fault end file)
-declared_fault-stops end file (f.Declared kind name at) stops = ap (λ r. first_fault (r ∷ whole_fault end file ∷ [])) (stopped file _ stops)
-declared_fault-stops end file (f.Data refused) stops = stops
-declared_fault-stops end file f.NoMemory stops = tt
+  -- the walk stopped
+  pub declared_fault-stops : (end : ℕ) (fault : DeclFault) → Stops fault (walk nothing_known (points_of file)) → Is fault (declared_fault end file)
+  declared_fault-stops end (f.Declared kind name at) stops = stopped end _ stops
+  declared_fault-stops end (f.Data refused) stops = stops
+  declared_fault-stops end f.NoMemory stops = tt
 
 alone : (r : Option Fault) → first_fault (r ∷ []) ≡ r
 alone None = refl
 alone (Some f) = refl
 
-counted_first : (a b c v : Option Fault) → first_fault (a ∷ b ∷ c ∷ v ∷ []) ≡ first_fault (first_fault (a ∷ b ∷ c ∷ []) ∷ v ∷ [])
-counted_first (Some f) b c v = refl
-counted_first None (Some f) c v = refl
-counted_first None None (Some f) v = refl
-counted_first None None None v = refl
-
--- where the walk finds no fault, what is counted decides, and then the values
-pub declared_fault-went : (end : ℕ) (file : List Statement) (k : Known) → walk (record { names = no_names; begun = false }) (points_of file) ≡ Ok k
-    → declared_fault end file ≡ first_fault (counted_fault end k (length (parts.equations_of file)) ∷ value_fault end (unvalued_in file k.names.parameters) ∷ [])
+-- where the walk finds no fault, the whole decides, by what is known then
+pub declared_fault-went : (end : ℕ) (file : List Statement) (k : Known) → walk nothing_known (points_of file) ≡ Ok k → declared_fault end file ≡ whole_fault_by end k file
 declared_fault-went end file k e =
-    let w = went file k e in
-    let names = known_names-points_of file in
+    let w = ended file (Ok k) e in
     ap (λ r. first_fault (r ∷ whole_fault end file ∷ [])) w.0
     ∙ alone (whole_fault end file)
-    ∙ counted_first (fault_if (not (has_model file)) d.NoModel [] end) (fault_if (length (names_of file).endogenous == 0) d.Empty [] end) (fault_if (not (length (parts.equations_of file) == length (names_of file).endogenous)) d.EquationCount [] end) (value_fault end (unvalued file))
-    ∙ ap (λ (ns : Names). first_fault (counted_fault end (record { names = ns; begun = has_model file }) (length (parts.equations_of file)) ∷ value_fault end (unvalued_in file ns.parameters) ∷ [])) (sym names)
-    ∙ ap (λ (j : Known). first_fault (counted_fault end j (length (parts.equations_of file)) ∷ value_fault end (unvalued_in file j.names.parameters) ∷ [])) w.1
-
-pub is_first : (fault : DeclFault) (a v : Option Fault) → Is fault a → Is fault (first_fault (a ∷ v ∷ []))
-is_first (f.Declared kind name at) a v h = ap (λ r. first_fault (r ∷ v ∷ [])) h
-is_first (f.Data refused) a v h = h
-is_first f.NoMemory a v h = tt
-
-pub is_second : (fault : DeclFault) (a v : Option Fault) → a ≡ None → Is fault v → Is fault (first_fault (a ∷ v ∷ []))
-is_second fault a v none h = subst (Is fault) (sym (alone v) ∙ ap (λ r. first_fault (r ∷ v ∷ [])) (sym none)) h
+    ∙ ap (λ (ns : Names). whole_fault_by end (record nothing_known { names = ns; begun = has_model file }) file) (sym (known-names file k e))
+    ∙ ap (λ b. whole_fault_by end (record nothing_known { names = k.names; begun = b }) file) (sym w.1.begun)
 
 -- a fault that is passed on
 pub finds_on : {X : Type 0} (result : Result X DeclFault) (fault : DeclFault) (found : Option Fault) → IsErrAnd result (λ e. e ≡ fault) → Is fault found → Finds result found

@@ -2,14 +2,14 @@
 use Rattle.std.specs.Prelude.{◌≡◌, ℕ, pos, List, take, Option, Some, None, Result, Ok, Err}
 use Rattle.mp_base.specs.declared.refusal.Refusal.{Refusal}
 use Rattle.mp_base.specs.declared.refusal.Refusal.TheVariants as r
-use Rattle.mp_base.specs.declared.span.Ratio.{Ratio}
+use Rattle.mp_base.specs.declared.fraction.Ratio.{Ratio}
 use Rattle.mp_base.specs.declared.kinds.DeclKind.TheVariants as k
 use Rattle.mp_base.specs.declared.kinds.DataKind.TheVariants as d
 use Rattle.mp_fold.specs.Reported.{ratio_told}
 use Rattle.mp_tokens.specs.Tokens.{Tok}
 use Rattle.mp_statements.specs.Statements.{Statement}
 use Rattle.mp_tokens.specs.Literals.{far_literal}
-use Rattle.mp_statements.specs.Parts.{equations_of}
+use Rattle.mp_statements.specs.Parts.{items_of}
 use Rattle.mp_values.specs.Table.{Table}
 use Rattle.mp_values.specs.Limits.{Stuck, Unvalued, Refused, Folded}
 use Rattle.mp_values.specs.Values.{values_given}
@@ -46,10 +46,10 @@ abbrev pub unless_stuck : {A B : Type 0} → ℕ → Folded A → (A → Result 
 unless_stuck end (Ok x) next = next x
 unless_stuck end (Err e) next = Err (stuck_told end e)
 
--- the parameters with their values, where each exponent of the equations is one
+-- the parameters with their values, where each exponent of the model is one
 abbrev pub values_told : ℕ → List Statement → Result Table Refusal
 values_told end file =
-    unless_stuck end (values_given file) (λ t. unless_stuck end (all_exponents t (equations_of file)) (λ _. Ok t))
+    unless_stuck end (values_given file) (λ t. unless_stuck end (all_exponents t (items_of file)) (λ _. Ok t))
 
 -- the parameters of a text of this length with their values, or its first refusal: in declaring, of its numbers, of its values, of its exponents (modpath's own order)
 abbrev pub declared_given : ℕ → List Tok → List Statement → Result Table Refusal

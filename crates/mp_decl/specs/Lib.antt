@@ -1,6 +1,5 @@
 pub mod Exponents
 pub mod Given
-pub mod Grown
 pub mod Search
 pub mod Shown
 pub mod Values

@@ -1,15 +1,16 @@
 // Whether a file declares its model.
 ghost use Rattle.std.specs.Prelude.{◌≡◌, ◌==◌, [], map, length, IfOk};
-ghost use Rattle.mp_statements.specs.Parts.{items_in, equations_of};
+ghost use Rattle.mp_statements.specs.Parts.{equations_of};
 ghost use Rattle.mp_file.specs.Shown.{statement_of, file_of};
 ghost use Rattle.mp_values.specs.Names.{names_of};
-ghost use Rattle.mp_declared.specs.Declared.{value_fault, unvalued, declared_fault};
-ghost use Rattle.mp_decl.specs.Whole.{counted_fault, unvalued_in};
+ghost use Rattle.mp_declared.specs.Declared.{equation_names, first_shared, gap_fault, value_fault, declared_fault};
+ghost use Rattle.mp_decl.specs.Whole.{whole_fault_by, unvalued_in};
 ghost use Rattle.mp_decl.specs.Walks.{Finds};
 
 use crate::fault::DeclFault;
 use crate::known::{Known, wrong};
-use crate::parts::items_of;
+use crate::parts::{equation_count, items_of};
+use crate::shared::first_shared;
 use crate::values::unvalued;
 use crate::walk::walk;
 use mp_base::DeclKind;
@@ -20,8 +21,8 @@ use std::alloc::Global;
 
 /// The names of a file that declares its model, or the file's first fault: that of the first point in text order that
 /// fails by what stands before it; and then, with `end`, the length of the text, as the place: no model block, no
-/// endogenous variable, not as many equations as these, or a parameter without a value (Dynare manual, "The model
-/// file"; which fault is named is modpath's own).
+/// endogenous variable, a name that several equations bear, not as many equations as endogenous variables, or a parameter
+/// without a value (Dynare manual, "The model file"; which fault is named is modpath's own).
 pub fn declared_names<'t>(alloc: Global, file: &File<'t>, end: u32) -> Result<Names<'t>, DeclFault>
     ensures fault { Finds result (declared_fault end (file_of file.now)) }
     ensures names { IfOk result (λ names. names ≡ names_of (file_of file.now)) }
@@ -29,15 +30,18 @@ pub fn declared_names<'t>(alloc: Global, file: &File<'t>, end: u32) -> Result<Na
     let statements = file.statements.as_slice();
     let mut known = Known::new(alloc);
     walk(&mut known, statements)?;
-    test_counts(&known, statements, end)?;
-    test_values(alloc, &known, statements, end)?;
-    let Known { names, begun: _ } = known;
-    Ok(names)
+    test_whole(alloc, &known, statements, end)?;
+    Ok(known.names)
 }
 
-// The tests of what is counted, after the walk.
-fn test_counts(known: &Known, statements: &[Statement], end: u32) -> Result<(), DeclFault>
-    ensures { Finds result (counted_fault end known.now (length (equations_of (map statement_of statements.now)))) }
+// The tests of the whole file, after the walk.
+fn test_whole<'t>(
+    alloc: Global,
+    known: &Known<'t>,
+    statements: &[Statement<'t>],
+    end: u32,
+) -> Result<(), DeclFault>
+    ensures { Finds result (whole_fault_by end known.now (map statement_of statements.now)) }
 {
     if !known.begun {
         return Err(wrong(DeclKind::NoModel, &nameless(end)));
@@ -46,10 +50,13 @@ fn test_counts(known: &Known, statements: &[Statement], end: u32) -> Result<(), 
     if count == 0 {
         return Err(wrong(DeclKind::Empty, &nameless(end)));
     }
+    if let Err(fault) = test_names(alloc, statements, end) {
+        return Err(fault);
+    }
     if !are_as_many(statements, count) {
         return Err(wrong(DeclKind::EquationCount, &nameless(end)));
     }
-    Ok(())
+    test_values(alloc, known, statements, end)
 }
 
 // A place without a name.
@@ -58,6 +65,17 @@ fn nameless(at: u32) -> Named<'static>
     ensures at { result.at ≡ at }
 {
     Named { name: b"", at }
+}
+
+// The test of the names of equations, after the walk.
+fn test_names(alloc: Global, statements: &[Statement], end: u32) -> Result<(), DeclFault>
+    ensures { Finds result (gap_fault end (first_shared (equation_names (equations_of (map statement_of statements.now))))) }
+{
+    match first_shared(alloc, statements) {
+        Ok(Some(name)) => Err(wrong(DeclKind::RegimeGap, &Named { name, at: end })),
+        Ok(None) => Ok(()),
+        Err(_) => Err(DeclFault::NoMemory),
+    }
 }
 
 // The test of the values of parameters, after the walk.
@@ -83,7 +101,7 @@ fn are_as_many(statements: &[Statement], count: u32) -> bool
 {
     let mut left = count as usize;
     'turns: for statement in statements {
-        let held = items_of(statement).len();
+        let held = equation_count(items_of(statement));
         if held > left {
             return false;
         }

@@ -5,19 +5,18 @@
 pub mod fault;
 pub mod file;
 pub mod find;
-pub mod heights;
 pub mod known;
+pub mod options;
 pub mod parts;
 pub mod search;
-pub mod shifts;
+pub mod shared;
+pub mod tags;
 pub mod text;
 pub mod values;
 pub mod walk;
 
 pub use fault::DeclFault;
 pub use file::declared_names;
-pub use heights::{greatest_height, heights_law};
-pub use known::Known;
-pub use search::{Read, Reader, Search};
-pub use shifts::{FarShift, far_shift};
+pub use known::{Known, Standing};
+pub use search::{Point, Reader, Search};
 pub use text::{Declared, declare};

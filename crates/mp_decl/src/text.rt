@@ -1,7 +1,7 @@
 // What a text declares.
 ghost use Rattle.std.specs.Prelude.{◌≡◌, None, Ok, map, IfOk, IfErr};
 ghost use Rattle.mp_tokens.specs.Literals.{far_literal, is_far, is_number};
-ghost use Rattle.mp_statements.specs.Parts.{equations_of};
+ghost use Rattle.mp_statements.specs.Parts.{items_of};
 ghost use Rattle.mp_lex.specs.Shown.{tok_of};
 ghost use Rattle.mp_file.specs.Shown.{statement_of, file_of};
 ghost use Rattle.mp_values.specs.Names.{names_of};
@@ -24,7 +24,8 @@ use mp_names::{Names, Table};
 use mp_tokens::TokenKind;
 use std::alloc::Global;
 
-/// The names that a text declares, its parameters with their values, and the exponents of its equations in text order.
+/// The names that a text declares, its parameters with their values, and the exponents of its locals and equations in
+/// text order.
 #[derive(Drop)]
 pub struct Declared<'t> {
     pub names: Names<'t>,
@@ -34,8 +35,8 @@ pub struct Declared<'t> {
 
 /// What a text declares, by its tokens, its file and its length in bytes, or its first refusal: the first fault in
 /// declaring (see `declared_names`); the first number that is out of range, as Literal with 0 and 37; the first
-/// assignment, in text order, whose expression has no value; the first exponent of an equation that is no whole number
-/// from -16 to 16. A later assignment of a parameter replaces an earlier one (Dynare manual, "Parameter
+/// assignment, in text order, whose expression has no value; the first exponent of a local or an equation that is no
+/// whole number from -16 to 16. A later assignment of a parameter replaces an earlier one (Dynare manual, "Parameter
 /// initialization"; the limits and the order are modpath's own).
 pub fn declare<'t>(
     alloc: Global,
@@ -45,7 +46,7 @@ pub fn declare<'t>(
 ) -> Result<Declared<'t>, DeclFault>
     ensures values { IfOk result (λ d. declared_given end tokens.now (file_of file.now) ≡ Ok d.values) }
     ensures names { IfOk result (λ d. d.names ≡ names_of (file_of file.now)) }
-    ensures exponents { IfOk result (λ d. all_exponents d.values (equations_of (file_of file.now)) ≡ Ok d.exponents.items) }
+    ensures exponents { IfOk result (λ d. all_exponents d.values (items_of (file_of file.now)) ≡ Ok d.exponents.items) }
     ensures without_fault { IfOk result (λ d. declared_fault end (file_of file.now) ≡ None) }
     ensures refused { IfErr result (λ e. Tells e (declared_given end tokens.now (file_of file.now))) }
 {
@@ -96,7 +97,7 @@ fn literal_fault(at: u32) -> DeclFault
     })
 }
 
-// These names, the parameters with their values, and the exponents of the equations.
+// These names, the parameters with their values, and the exponents of the model.
 fn valued<'t>(
     alloc: Global,
     names: Names<'t>,
@@ -106,7 +107,7 @@ fn valued<'t>(
     requires { names.parameters ≡ (names_of (map statement_of statements.now)).parameters }
     ensures names { IfOk result (λ d. d.names ≡ names.entry) }
     ensures given { IfOk result (λ d. values_told end (map statement_of statements.now) ≡ Ok d.values) }
-    ensures exponents { IfOk result (λ d. all_exponents d.values (equations_of (map statement_of statements.now)) ≡ Ok d.exponents.items) }
+    ensures exponents { IfOk result (λ d. all_exponents d.values (items_of (map statement_of statements.now)) ≡ Ok d.exponents.items) }
     ensures refused { IfErr result (λ e. Tells e (values_told end (map statement_of statements.now))) }
 {
     let Ok(mut values) = Table::of_parameters(alloc, &names) else {
@@ -126,13 +127,13 @@ fn valued<'t>(
     }
 }
 
-// The exponents of the equations in text order.
+// The exponents of the model in text order.
 fn exponents<'t>(
     alloc: Global,
     table: &Table<'t>,
     statements: &[Statement<'t>],
 ) -> Result<Vec<Exponent>, ExponentFault<'t>>
-    ensures { Collects (λ v. v.items) result (all_exponents table.now (equations_of (map statement_of statements.now))) }
+    ensures { Collects (λ v. v.items) result (all_exponents table.now (items_of (map statement_of statements.now))) }
 {
     let mut found = Vec::new(alloc);
     'turns: for statement in statements {

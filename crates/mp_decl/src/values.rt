@@ -40,7 +40,7 @@ fn read_early<'t>(given: &NameList<'t>, statement: &Statement<'t>) -> Option<&'t
         return None;
     };
     match find_in(&Search::Missing(given), Reader::Constant, value) {
-        Some(read) => Some(read.name.name),
+        Some(point) => Some(point.name()),
         None => None,
     }
 }

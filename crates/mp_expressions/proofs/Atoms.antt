@@ -7,14 +7,14 @@ use Rattle.mp_tokens.specs.declared.token.TokenKind.TheVariants as k
 use Rattle.mp_tokens.specs.declared.terminal.Terminal.TheVariants as t
 use Rattle.mp_tokens.specs.Tokens.{number_length, digits_length, number_kind}
 use Rattle.mp_syntax.specs.declared.operator.Function.TheVariants as function
-use Rattle.mp_syntax.specs.Syntax.{Shift, Expr, Number, Variable, Paren, Call}
+use Rattle.mp_syntax.specs.Syntax.{Shift, Expr, Number, Variable, Paren, Call, Diff}
 use Rattle.mp_format.specs.Format.{token, empty}
 use Rattle.mp_format.specs.Pieces.{Solid, IsLiteral}
 use Rattle.mp_expressions.specs.Script.{bare_name, bare, the, shift_pieces, expr_pieces, expr_script}
 use Rattle.mp_format.specs.Spelling.{value, pieces, Fits, opens, closes, Writing}
 use Rattle.mp_expressions.specs.Productions.{Whole}
-use Rattle.mp_expressions.specs.Expressions.{shift, shift_part, fenced, closed, pair, literal, flat_atom, atom, factor, times, product, plus, sum}
-use Rattle.mp_expressions.specs.InForm.{AtSum, IsShift, Flat, Deep, number_by, number_tree, flat_tree, shift_tree, pair_tree, closed_tree, atom_tree, sum_tree}
+use Rattle.mp_expressions.specs.Expressions.{shift, shift_part, fenced, closed, inside, pair, literal, flat_atom, atom, factor, times, product, plus, sum}
+use Rattle.mp_expressions.specs.InForm.{AtSum, IsShift, Flat, Deep, number_by, number_tree, flat_tree, shift_tree, pair_tree, closed_tree, inside_tree, atom_tree, sum_tree}
 use Rattle.mp_format.proofs.Writings.{Tells, writing}
 use Rattle.mp_expressions.proofs.Spaced.{flat_spaced, sum_spaced}
 use Rattle.mp_expressions.proofs.ExprTrees.{sign_value, sign_pieces, sign_fits, sum_tells}
@@ -56,7 +56,7 @@ shift_tells (Some s) is =
     record { value = ap (λ v. Some (record { sign = v; digits = s.digits })) (sign_value s.sign); pieces = ap (λ l. the t.Open ∷ ((l ++ (Solid (token k.Whole s.digits) ∷ [])) ++ (the t.Close ∷ []))) (sign_pieces s.sign); fits = (tt, ((sign_fits s.sign, is), tt)) }
 
 atom_tells : (e : Whole) (x : Expr) → Deep e.Fits x → Tells (atom e) (atom_tree e x) (bare x) (expr_pieces x)
-unfolding value pieces Fits bare expr_pieces atom closed pair atom_tree closed_tree pair_tree
+unfolding value pieces Fits bare expr_pieces atom closed inside pair atom_tree closed_tree inside_tree pair_tree
 atom_tells e (Number l q) is =
     let h = number_tells l is in record { value = h.value; pieces = h.pieces; fits = h.fits }
 atom_tells e (Variable n s) is =
@@ -67,15 +67,16 @@ atom_tells e (Call function.Min a b) is =
     record { value = refl; pieces = ap (λ l. the t.Min ∷ the t.Open ∷ l) (append_assoc (expr_pieces a) (the t.Comma ∷ []) (expr_pieces b ++ (the t.Close ∷ []))); fits = (tt, ((tt, (is.0, tt)), (is.1, tt))) }
 atom_tells e (Call function.Max a b) is =
     record { value = refl; pieces = ap (λ l. the t.Max ∷ the t.Open ∷ l) (append_assoc (expr_pieces a) (the t.Comma ∷ []) (expr_pieces b ++ (the t.Close ∷ []))); fits = (tt, ((tt, (is.0, tt)), (is.1, tt))) }
+atom_tells e (Diff q a) is = record { value = refl; pieces = refl; fits = (tt, (tt, (is, tt))) }
 atom_tells e x is = absurd is
 
 pub flat_writing : Writing (sum flat_atom) expr_script
-unfolding empty opens closes shift fenced closed pair flat_atom atom factor times product plus sum
+unfolding empty opens closes shift fenced closed inside pair flat_atom atom factor times product plus sum
 flat_writing =
     writing (sum flat_atom) expr_script (sum_tree flat_atom flat_tree) (AtSum Flat) (sum_tells flat_atom flat_tree Flat flat_tells) flat_spaced refl refl refl
 
 pub sum_writing : (e : Whole) → Writing (sum (atom e)) expr_script
-unfolding empty opens closes shift fenced closed pair flat_atom atom factor times product plus sum
+unfolding empty opens closes shift fenced closed inside pair flat_atom atom factor times product plus sum
 sum_writing e =
     writing (sum (atom e)) expr_script (sum_tree (atom e) (atom_tree e)) (AtSum (Deep e.Fits)) (sum_tells (atom e) (atom_tree e) (Deep e.Fits) (atom_tells e)) (sum_spaced e) refl refl refl
 

@@ -6,13 +6,13 @@ use Rattle.mp_tokens.specs.Tokens.{Tok}
 use Rattle.mp_format.proofs.TokenForms.{IsToken, whole_is, number_is, name_is}
 use Rattle.mp_syntax.specs.declared.operator.Operator.{Operator}
 use Rattle.mp_syntax.specs.declared.operator.Operator.TheVariants as operator
-use Rattle.mp_syntax.specs.Syntax.{Shift, Expr, Number, Variable, Signed, Binary, Power, Paren, Call, Further, with_further}
+use Rattle.mp_syntax.specs.Syntax.{Shift, Expr, Number, Variable, Signed, Binary, Power, Paren, Call, Diff, Further, with_further}
 use Rattle.mp_format.specs.Pieces.{IsLiteral, AreDigits}
 use Rattle.mp_format.specs.Format.{Every, Format, opt, Made}
 use Rattle.mp_expressions.specs.Productions.{Whole, expr, sign_format}
 use Rattle.mp_format.specs.Notation.{of, ◌⊗◌}
 use Rattle.mp_format.proofs.Looks.{clash}
-use Rattle.mp_expressions.specs.Expressions.{raised, shift, shift_part, fenced, closed, pair, literal, flat_atom, atom, power, factor, times, product, plus, sum}
+use Rattle.mp_expressions.specs.Expressions.{raised, shift, shift_part, fenced, closed, inside, pair, literal, flat_atom, atom, power, factor, times, product, plus, sum}
 use Rattle.mp_expressions.specs.InForm.{AtPower, AtFactor, AtProduct, AtSum, IsShift, Flat, Deep}
 
 literal_form : (x : Expr) (A : Expr → Type 0) → ((l : List ℕ) (at : ℕ) → IsLiteral l → A (Number l at)) → Made literal IsToken x → A x
@@ -40,6 +40,7 @@ is_atom (Number l at) = true
 is_atom (Variable n s) = true
 is_atom (Paren x) = true
 is_atom (Call f x y) = true
+is_atom (Diff at x) = true
 is_atom _ = false
 
 -- what may follow a base
@@ -47,15 +48,17 @@ abbrev power_rest : Format Expr → Format (Option (Tok × (Option Sign × Expr)
 power_rest a = opt (of t.Caret ⊗ opt sign_format ⊗ a)
 
 pub atom_form : (e : Whole) (I : Expr → Type 0) → ((x : Expr) → Made (expr e) IsToken x → I x) → (x : Expr) → Made (atom e) IsToken x → Deep I x
-unfolding Made atom closed pair
+unfolding Made atom closed inside pair
 atom_form e I h x (inl m) = literal_form x (Deep I) (λ l at h. h) m
 atom_form e I h x (inr (inl (p, q, m))) = subst (Deep I) q (name_is p.0 m.0.0 m.0.1, shift_form p.1 m.1)
 atom_form e I h x (inr (inr (inl (a, q, (p, r, (o, (y, s, (m, c)))))))) =
     subst (Deep I) q (subst I (s ∙ r) (h y.0 m))
 atom_form e I h x (inr (inr (inr (inl (ab, q, (p, r, (o, m))))))) =
     subst (Deep I) q (subst (λ (z : Expr × Expr). I z.0 × I z.1) r (two e I h p.1 m))
-atom_form e I h x (inr (inr (inr (inr (ab, q, (p, r, (o, m))))))) =
+atom_form e I h x (inr (inr (inr (inr (inl (ab, q, (p, r, (o, m)))))))) =
     subst (Deep I) q (subst (λ (z : Expr × Expr). I z.0 × I z.1) r (two e I h p.1 m))
+atom_form e I h x (inr (inr (inr (inr (inr (a, q, (d, (p, r, (o, (y, s, (m, c))))))))))) =
+    subst (Deep I) q (subst I (s ∙ r) (h y.0 m))
 
 abbrev is_times : Operator → Bool
 is_times operator.Times = true
@@ -157,4 +160,5 @@ deep_alone I (Number l at) m = refl
 deep_alone I (Variable n s) m = refl
 deep_alone I (Paren x) m = refl
 deep_alone I (Call f x y) m = refl
+deep_alone I (Diff at x) m = refl
 deep_alone I x m = absurd m

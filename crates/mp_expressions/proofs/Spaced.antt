@@ -6,14 +6,14 @@ use Rattle.mp_format.specs.Format.{empty, many}
 use Rattle.mp_format.specs.Notation.{of, ◌⊗◌}
 use Rattle.mp_format.specs.Spelling.{opens, closes, spaced}
 use Rattle.mp_expressions.specs.Productions.{Whole, name, expr}
-use Rattle.mp_expressions.specs.Expressions.{shift, fenced, closed, pair, flat_atom, atom, factor, times, product, plus, sum}
+use Rattle.mp_expressions.specs.Expressions.{shift, fenced, closed, inside, pair, flat_atom, atom, factor, times, product, plus, sum}
 
 pub flat_spaced : spaced (sum flat_atom) ≡ true
-unfolding terminal_of word_of spaced empty opens closes shift fenced closed pair flat_atom atom factor times product plus sum
+unfolding terminal_of word_of spaced empty opens closes shift fenced closed inside pair flat_atom atom factor times product plus sum
 flat_spaced = refl
 
 pub sum_spaced : (e : Whole) → spaced (sum (atom e)) ≡ true
-unfolding terminal_of word_of spaced empty opens closes shift fenced closed pair flat_atom atom factor times product plus sum
+unfolding terminal_of word_of spaced empty opens closes shift fenced closed inside pair flat_atom atom factor times product plus sum
 sum_spaced e = refl
 
 -- names without blanks, and digits before letters, are found

@@ -7,7 +7,7 @@ use Rattle.mp_syntax.specs.declared.operator.Sign.TheVariants as sign
 use Rattle.mp_syntax.specs.declared.operator.Operator.{Operator}
 use Rattle.mp_syntax.specs.declared.operator.Operator.TheVariants as operator
 use Rattle.mp_syntax.specs.declared.operator.Function.TheVariants as function
-use Rattle.mp_syntax.specs.Syntax.{Shift, Expr, Number, Variable, Power, Paren, Call, Further, with_further, signed}
+use Rattle.mp_syntax.specs.Syntax.{Shift, Expr, Number, Variable, Power, Paren, Call, Diff, Further, with_further, signed}
 use Rattle.mp_format.specs.Format.{Format, opt, many}
 use Rattle.mp_format.specs.Notation.{of, ◌⊗◌, ◌▸◌, ◌◂◌, ◌∣◌, ◌⇒◌}
 use Rattle.mp_expressions.specs.Productions.{Whole, expr, named, sign_format, number}
@@ -45,10 +45,14 @@ shift_part = opt fenced
 unfoldable pub closed : Whole → Format Expr
 closed e = expr e ◂ of t.Close
 
--- atom = NUMBER | NAME ["(" shift ")"] | "(" expr ")" | ("min" | "max") "(" expr "," expr ")"
+-- "(" expr ")"
+unfoldable pub inside : Whole → Format Expr
+inside e = of t.Open ▸ closed e
+
+-- atom = NUMBER | NAME ["(" shift ")"] | "(" expr ")" | ("min" | "max") "(" expr "," expr ")" | "diff" "(" expr ")"
 unfoldable pub atom : Whole → Format Expr
 atom e =
-    literal ∣ (of t.Name ⊗ shift_part ⇒ λ p. Variable (named p.0) p.1) ∣ (of t.Open ▸ closed e ⇒ λ x. Paren x) ∣ (of t.Min ▸ pair e ⇒ λ p. Call function.Min p.0 p.1) ∣ (of t.Max ▸ pair e ⇒ λ p. Call function.Max p.0 p.1)
+    literal ∣ (of t.Name ⊗ shift_part ⇒ λ p. Variable (named p.0) p.1) ∣ (of t.Open ▸ closed e ⇒ λ x. Paren x) ∣ (of t.Min ▸ pair e ⇒ λ p. Call function.Min p.0 p.1) ∣ (of t.Max ▸ pair e ⇒ λ p. Call function.Max p.0 p.1) ∣ (of t.Diff ⊗ inside e ⇒ λ p. Diff p.0.at p.1)
 
 -- the base, with its exponent if there is one
 abbrev pub raised : Expr → Option (Tok × (Option Sign × Expr)) → Expr

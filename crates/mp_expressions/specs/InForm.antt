@@ -6,12 +6,12 @@ use Rattle.mp_syntax.specs.declared.operator.Sign.TheVariants as sign
 use Rattle.mp_tokens.specs.Tokens.{number_length, digits_length}
 use Rattle.mp_syntax.specs.declared.operator.Operator.TheVariants as operator
 use Rattle.mp_syntax.specs.declared.operator.Function.TheVariants as function
-use Rattle.mp_syntax.specs.Syntax.{Shift, Expr, Number, Variable, Signed, Binary, Power, Paren, Call}
+use Rattle.mp_syntax.specs.Syntax.{Shift, Expr, Number, Variable, Signed, Binary, Power, Paren, Call, Diff}
 use Rattle.mp_format.specs.Format.{Format}
 use Rattle.mp_format.specs.Pieces.{IsName, IsLiteral, AreDigits}
 use Rattle.mp_format.specs.Spelling.{Tree}
 use Rattle.mp_expressions.specs.Productions.{Whole}
-use Rattle.mp_expressions.specs.Expressions.{shift, fenced, closed, pair, flat_atom, atom, factor, times, product, plus, sum, power}
+use Rattle.mp_expressions.specs.Expressions.{shift, fenced, closed, inside, pair, flat_atom, atom, factor, times, product, plus, sum, power}
 
 -- over what its atoms are, a power, a factor, a product and a sum
 abbrev pub AtPower : (Expr → Type 0) → Expr → Type 0
@@ -47,6 +47,7 @@ Deep Inside (Number literal at) = IsLiteral literal
 Deep Inside (Variable n s) = IsName n.name × IsShift s
 Deep Inside (Paren a) = Inside a
 Deep Inside (Call f a b) = Inside a × Inside b
+Deep Inside (Diff at a) = Inside a
 Deep Inside e = ⊥
 
 -- each name is a name, each literal a number, no operand needs a parenthesis that it has not, and at most so many are open at once
@@ -83,6 +84,10 @@ unfoldable pub closed_tree : (e : Whole) → Expr → Tree (closed e)
 unfolding closed
 closed_tree e a = (a, tt)
 
+unfoldable pub inside_tree : (e : Whole) → Expr → Tree (inside e)
+unfolding inside
+inside_tree e a = (tt, closed_tree e a)
+
 -- an expression that is no atom is none here
 unfoldable pub atom_tree : (e : Whole) → Expr → Tree (atom e)
 unfolding atom
@@ -90,7 +95,8 @@ atom_tree e (Number literal at) = inl (number_tree literal)
 atom_tree e (Variable n s) = inr (inl (n.name, option_map shift_tree s))
 atom_tree e (Paren a) = inr (inr (inl (tt, closed_tree e a)))
 atom_tree e (Call function.Min a b) = inr (inr (inr (inl (tt, pair_tree e a b))))
-atom_tree e (Call function.Max a b) = inr (inr (inr (inr (tt, pair_tree e a b))))
+atom_tree e (Call function.Max a b) = inr (inr (inr (inr (inl (tt, pair_tree e a b)))))
+atom_tree e (Diff at a) = inr (inr (inr (inr (inr (tt, inside_tree e a)))))
 atom_tree e _ = inr (inl ([], None))
 
 -- the trees of the levels

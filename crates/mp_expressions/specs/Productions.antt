@@ -12,7 +12,7 @@ use Rattle.mp_expressions.specs.Script.{expr_script}
 -- with what an expression begins
 abbrev pub expr_first : List Look
 expr_first =
-    Of t.Plus ∷ Of t.Minus ∷ Of t.Whole ∷ Of t.Number ∷ Of t.Name ∷ Of t.Open ∷ Of t.Min ∷ Of t.Max ∷ []
+    Of t.Plus ∷ Of t.Minus ∷ Of t.Whole ∷ Of t.Number ∷ Of t.Name ∷ Of t.Open ∷ Of t.Min ∷ Of t.Max ∷ Of t.Diff ∷ []
 
 -- with what it goes on
 abbrev pub expr_more : List Look

@@ -4,7 +4,7 @@ use Rattle.std.specs.Prelude.{◌<ℤ◌}
 use Rattle.std.specs.Int.RustNames.{unsigned_abs}
 use Rattle.std.proofs.lemmas.Int.{ints}
 use Rattle.std.specs.Int.{IsGcd}
-use Rattle.mp_base.specs.declared.span.Ratio.{Ratio}
+use Rattle.mp_base.specs.declared.fraction.Ratio.{Ratio}
 use Rattle.mp_base.specs.Fractions.{IsReduced}
 use Rattle.mp_rational.specs.Fraction.{Fraction, ratio_of}
 use Rattle.mp_rational.specs.Lowest.{numerator, denominator}

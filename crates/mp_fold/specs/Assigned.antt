@@ -1,6 +1,6 @@
 -- What an assignment does.
 use Rattle.std.specs.Prelude.{◌≡◌, List, [], ◌∷◌, Some, Result, Ok, Err}
-use Rattle.mp_statements.specs.Statements.{Statement, Declares, Assigns, Model}
+use Rattle.mp_statements.specs.Statements.{Statement, Declares, Assigns, Model, Notes}
 use Rattle.mp_values.specs.Table.{Table, with_value}
 use Rattle.mp_values.specs.Limits.{Folded, ◌>>=◌}
 use Rattle.mp_values.specs.Values.{folded}
@@ -11,7 +11,8 @@ use Rattle.mp_fold.specs.Shown.{stuck_of}
 abbrev pub after_statement : Table → Statement → Folded Table
 after_statement t (Declares kind names) = Ok t
 after_statement t (Assigns name value) = folded t value >>= λ x. Ok (with_value name.name (Some x) t)
-after_statement t (Model at items) = Ok t
+after_statement t (Model at choices items) = Ok t
+after_statement t (Notes command names) = Ok t
 
 -- goes on with what there is, or stays where it was
 abbrev pub or_stays : Table → Folded Table → (Table → Table) → Table

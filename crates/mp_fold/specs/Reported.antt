@@ -1,6 +1,6 @@
 -- Fractions as refusals report them: numerator and denominator in lowest terms.
 use Rattle.std.specs.Prelude.{pos, unsigned_abs}
-use Rattle.mp_base.specs.declared.span.Ratio.{Ratio}
+use Rattle.mp_base.specs.declared.fraction.Ratio.{Ratio}
 use Rattle.mp_rational.specs.Fraction.{Fraction, ratio_of}
 use Rattle.mp_rational.specs.Lowest.{numerator, denominator}
 

@@ -1,17 +1,17 @@
 // The exponents of equations.
 ghost use Rattle.std.specs.Prelude.{◌≡◌, ◌≤◌, ◌∷◌, [], Ok, map, option_map, unsigned_abs};
-ghost use Rattle.mp_file.specs.Shown.{expr_of, further_of, item_of};
+ghost use Rattle.mp_file.specs.Shown.{expr_of, further_of, equation_of, item_of};
 ghost use Rattle.mp_values.specs.Chained.{chained};
 ghost use Rattle.mp_values.specs.Limits.{limited};
 ghost use Rattle.mp_values.specs.Values.{folded, exponent_at};
-ghost use Rattle.mp_values.specs.Exponents.{exponents_given, right_exponents, item_exponents, all_exponents};
+ghost use Rattle.mp_values.specs.Exponents.{exponents_given, right_exponents, equation_exponents, item_exponents, all_exponents};
 ghost use Rattle.mp_fold.specs.Shown.{and_then};
 ghost use Rattle.mp_fold.specs.Collected.{appended, Adds, Reaches};
 
 use crate::fault::FoldFault;
 use crate::operations::near_exponent;
 use crate::values::value_of;
-use mp_file::{Expression, Further, Item};
+use mp_file::{Equation, Expression, Further, Item};
 use mp_names::Table;
 use mp_syntax::Sign;
 use std::marker::Model;
@@ -121,6 +121,7 @@ fn add_expression<'t>(
             add_expression(table, first.get(), found)?;
             add_expression(table, second.get(), found)
         }
+        Expression::Diff { inside, .. } => add_expression(table, inside.get(), found),
     }
 }
 
@@ -148,14 +149,28 @@ fn add_right<'t>(
     }
 }
 
+fn add_equation<'t>(
+    table: &Table<'t>,
+    equation: &Equation<'t>,
+    found: &mut Vec<Exponent>,
+) -> Tested<'t>
+    ensures { Adds result found.old.items found.new.items (equation_exponents table.now (equation_of equation.now)) }
+{
+    add_expression(table, &equation.left, found)?;
+    add_right(table, &equation.right, found)
+}
+
 fn add_item<'t>(table: &Table<'t>, item: &Item<'t>, found: &mut Vec<Exponent>) -> Tested<'t>
     ensures { Adds result found.old.items found.new.items (item_exponents table.now (item_of item.now)) }
 {
-    add_expression(table, &item.left, found)?;
-    add_right(table, &item.right, found)
+    match item {
+        Item::Local { value, .. } => add_expression(table, value, found),
+        Item::Equates { equation } => add_equation(table, equation, found),
+    }
 }
 
-/// Adds the exponents of these equations in text order, where parameters have these values. The first that is no whole
+/// Adds the exponents of these items, of the expressions of locals too, in text order, where parameters have these
+/// values. The first that is no whole
 /// number from -16 to 16 is told (modpath's own rule).
 #[tactic(auto, using(crate::proofs::Chains::after_joined))]
 pub fn add_exponents<'t>(

@@ -1,5 +1,5 @@
 // Operations on fractions, with their limits.
-ghost use Rattle.std.specs.Prelude.{◌≡◌, ◌≤◌, unsigned_abs, IfOk};
+ghost use Rattle.std.specs.Prelude.{◌≡◌, ◌≤◌, pos, unsigned_abs, IfOk};
 ghost use Rattle.std.specs.Option.{ForSome};
 ghost use Rattle.mp_rational.specs.Fraction.{less, whole};
 ghost use Rattle.mp_frac.specs.Value.{value_of, outcome_of};
@@ -63,6 +63,16 @@ pub(crate) fn signed<'t>(sign: Sign, x: Value<'t>) -> Value<'t>
 {
     match x {
         Ok(a) => Ok(with_sign(sign, a)),
+        Err(fault) => Err(fault),
+    }
+}
+
+// What a value gains from period to period, where it has one.
+pub(crate) fn unchanging<'t>(x: Value<'t>) -> Value<'t>
+    ensures { shown value_of result ≡ and_then (shown value_of x.entry) (λ a. Ok (whole (pos 0))) }
+{
+    match x {
+        Ok(_) => Ok(Frac::ratio(0, 1)),
         Err(fault) => Err(fault),
     }
 }

@@ -8,13 +8,14 @@ ghost use Rattle.mp_values.specs.Values.{folded};
 ghost use Rattle.mp_fold.specs.Shown.{shown, and_then};
 
 use crate::number::{known_value, literal_value};
-use crate::operations::{Value, chosen, joined, power, signed};
+use crate::operations::{Value, chosen, joined, power, signed, unchanging};
 use mp_file::{Expression, Further};
 use mp_names::Table;
 
 /// The value of an expression where parameters have these values: a parameter without one, or the first operation, in
 /// post-order, that is refused, is told. A literal has a numerator of at most 10^37 and 37 places, an exponent is a
-/// whole number from -16 to 16, and operations refuse by the rule of stated parts (all modpath's own).
+/// whole number from -16 to 16, and operations refuse by the rule of stated parts (all modpath's own). What reads no
+/// variables gains nothing from period to period, so a `diff` is 0.
 #[cycle(folder)]
 pub fn value_of<'t>(table: &Table<'t>, expression: &Expression<'t>) -> Value<'t>
     ensures { shown v.value_of result ≡ folded table.now (expr_of expression.now) }
@@ -47,6 +48,7 @@ pub fn value_of<'t>(table: &Table<'t>, expression: &Expression<'t>) -> Value<'t>
             let y = value_of(table, second.get());
             chosen(*function, x, y)
         }
+        Expression::Diff { inside, .. } => unchanging(value_of(table, inside.get())),
     }
 }
 

@@ -2,17 +2,18 @@
 ghost use Rattle.std.specs.Prelude.{◌≡◌, ◌<◌, ◌≤◌, length, map, IfOk};
 ghost use Rattle.mp_file.specs.Shown.{statement_of};
 ghost use Rattle.mp_format.specs.Format.{many, read};
-ghost use Rattle.mp_grammar.specs.Productions.{declared, declares, assigns, model, statement};
+ghost use Rattle.mp_grammar.specs.Productions.{declared, declares, assigns, model, noted, notes, statement};
 ghost use Rattle.mp_grammar.specs.Levels.{expression};
 ghost use Rattle.mp_gram_expr.specs.Shown.{toks};
 ghost use Rattle.mp_gram_expr.specs.Gives.{Gives};
 
+use crate::choice::choices_of;
 use crate::item::items_of;
-use crate::name::{name_of, names_of};
+use crate::name::{decl_of, decls_of, name_of, names_of};
 use crate::repeated::{Repeated, all_of};
 use mp_file::Statement;
 use mp_gram_expr::{Rest, Wrong, expect, expr_of, wrong_at};
-use mp_statements::NameKind;
+use mp_statements::{Command, NameKind};
 use mp_tokens::Terminal;
 use sqlite_items::Items;
 use std::alloc::Global;
@@ -27,10 +28,10 @@ fn declared_of<'a, 't>(
     ensures value { Gives (λ x. (statement_of x.0, toks x.1.now)) result (read (declared kind) (toks tokens.now)) }
     ensures fewer { IfOk result (λ x. length x.1.now < length tokens.now) }
 {
-    let (first, rest) = name_of(tokens)?;
+    let (first, rest) = decl_of(alloc, tokens)?;
     let mut names = Items::new(alloc);
     names.push(first)?;
-    let (names, rest) = names_of(alloc, names, rest)?;
+    let (names, rest) = decls_of(alloc, names, rest)?;
     let (_, rest) = expect(rest, Terminal::Semicolon)?;
     Ok((Statement::Declares { kind, names }, rest))
 }
@@ -82,15 +83,54 @@ fn model_of<'a, 't>(
     ensures fewer { IfOk result (λ x. length x.1.now < length tokens.now) }
 {
     let (word, rest) = expect(tokens, Terminal::Model)?;
+    let at = word.at;
+    let (choices, rest) = choices_of(alloc, rest)?;
     let (_, rest) = expect(rest, Terminal::Semicolon)?;
     let (items, rest) = items_of(alloc, rest)?;
     let (_, rest) = expect(rest, Terminal::End)?;
     let (_, rest) = expect(rest, Terminal::Semicolon)?;
-    Ok((Statement::Model { at: word.at, items }, rest))
+    Ok((Statement::Model { at, choices, items }, rest))
+}
+
+// The word of a command that is noted.
+#[tactic(auto, unfolding(mp_format::specs::Format::read, mp_format::specs::Format::first, mp_format::specs::Format::empty, mp_format::specs::Format::tok_at, mp_grammar::specs::Productions::noted))]
+fn command_of<'a, 't>(tokens: Rest<'a, 't>) -> Result<(Command, Rest<'a, 't>), Wrong<'a, 't>>
+    ensures value { Gives (λ x. (x.0, toks x.1.now)) result (read noted (toks tokens.now)) }
+    ensures fewer { IfOk result (λ x. length x.1.now < length tokens.now) }
+{
+    let Some((t, rest)) = tokens.split_first() else {
+        return wrong_at(tokens);
+    };
+    match t.terminal() {
+        Terminal::Check => return Ok((Command::Check, rest)),
+        Terminal::Resid => return Ok((Command::Resid, rest)),
+        Terminal::Rplot => return Ok((Command::Rplot, rest)),
+        Terminal::ModelDiagnostics => return Ok((Command::ModelDiagnostics, rest)),
+        Terminal::OccbinSetup => return Ok((Command::OccbinSetup, rest)),
+        Terminal::OccbinSolver => return Ok((Command::OccbinSolver, rest)),
+        _ => {}
+    }
+    wrong_at(tokens)
+}
+
+// A noted command, past its options.
+#[tactic(auto, unfolding(mp_format::specs::Format::read, mp_grammar::specs::Productions::notes))]
+fn notes_of<'a, 't>(
+    alloc: Global,
+    tokens: Rest<'a, 't>,
+) -> Result<(Statement<'t>, Rest<'a, 't>), Wrong<'a, 't>>
+    ensures value { Gives (λ x. (statement_of x.0, toks x.1.now)) result (read notes (toks tokens.now)) }
+    ensures fewer { IfOk result (λ x. length x.1.now < length tokens.now) }
+{
+    let (command, rest) = command_of(tokens)?;
+    let (_, rest) = choices_of(alloc, rest)?;
+    let (names, rest) = names_of(alloc, rest)?;
+    let (_, rest) = expect(rest, Terminal::Semicolon)?;
+    Ok((Statement::Notes { command, names }, rest))
 }
 
 // A statement.
-#[tactic(auto, unfolding(mp_format::specs::Format::read, mp_format::specs::Format::first, mp_format::specs::Format::empty, mp_format::specs::Format::tok_at, mp_grammar::specs::Productions::statement, mp_grammar::specs::Productions::declares, mp_grammar::specs::Productions::assigns, mp_grammar::specs::Productions::model))]
+#[tactic(auto, unfolding(mp_format::specs::Format::read, mp_format::specs::Format::first, mp_format::specs::Format::empty, mp_format::specs::Format::tok_at, mp_grammar::specs::Productions::statement, mp_grammar::specs::Productions::declares, mp_grammar::specs::Productions::assigns, mp_grammar::specs::Productions::model, mp_grammar::specs::Productions::notes, mp_grammar::specs::Productions::noted))]
 fn statement_of<'a, 't>(
     alloc: Global,
     tokens: Rest<'a, 't>,
@@ -107,6 +147,12 @@ fn statement_of<'a, 't>(
         }
         Terminal::Name => return assigns_of(alloc, tokens),
         Terminal::Model => return model_of(alloc, tokens),
+        Terminal::Check
+        | Terminal::Resid
+        | Terminal::Rplot
+        | Terminal::ModelDiagnostics
+        | Terminal::OccbinSetup
+        | Terminal::OccbinSolver => return notes_of(alloc, tokens),
         _ => {}
     }
     wrong_at(tokens)
@@ -133,7 +179,7 @@ impl<'t> Repeated<'t> for StatementHere {
 
     ghost format = { statement (expression 500) };
 
-    #[tactic(auto, unfolding(mp_format::specs::Format::first, mp_format::specs::Format::empty, mp_grammar::specs::Productions::statement, mp_grammar::specs::Productions::declares, mp_grammar::specs::Productions::assigns, mp_grammar::specs::Productions::model))]
+    #[tactic(auto, unfolding(mp_format::specs::Format::first, mp_format::specs::Format::empty, mp_grammar::specs::Productions::statement, mp_grammar::specs::Productions::declares, mp_grammar::specs::Productions::assigns, mp_grammar::specs::Productions::model, mp_grammar::specs::Productions::notes, mp_grammar::specs::Productions::noted))]
     fn begins(tokens: Rest) -> bool
         ensures begun { result ≡ meets (first (statement (expression 500))) (toks tokens.now) }
         ensures full { empty (statement (expression 500)) ≡ false }
@@ -146,7 +192,13 @@ impl<'t> Repeated<'t> for StatementHere {
             | Terminal::Varexo
             | Terminal::Parameters
             | Terminal::Name
-            | Terminal::Model => true,
+            | Terminal::Model
+            | Terminal::Check
+            | Terminal::Resid
+            | Terminal::Rplot
+            | Terminal::ModelDiagnostics
+            | Terminal::OccbinSetup
+            | Terminal::OccbinSolver => true,
             _ => false,
         }
     }

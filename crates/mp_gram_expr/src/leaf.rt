@@ -23,11 +23,9 @@ pub(crate) fn sign_begins(tokens: Rest) -> bool
     meets(tokens, Terminal::Plus) || meets(tokens, Terminal::Minus)
 }
 
-// A sign, if there is one.
+/// A sign, if there is one.
 #[tactic(auto, unfolding(mp_format::specs::Format::read, mp_format::specs::Format::first))]
-pub(crate) fn sign_of<'a, 't>(
-    tokens: Rest<'a, 't>,
-) -> Result<(Option<Sign>, Rest<'a, 't>), Wrong<'a, 't>>
+pub fn sign_of<'a, 't>(tokens: Rest<'a, 't>) -> Result<(Option<Sign>, Rest<'a, 't>), Wrong<'a, 't>>
     ensures value { Gives (λ x. (x.0, toks x.1.now)) result (read (opt sign_format) (toks tokens.now)) }
     ensures fewer { IfOk result (λ x. length x.1.now ≤ length tokens.now) }
 {

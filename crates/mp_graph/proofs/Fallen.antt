@@ -4,11 +4,12 @@ use Rattle.std.proofs.lemmas.Grind.{common_steps}
 use Rattle.std.proofs.lemmas.Bool.{cases_lt}
 use Rattle.std.proofs.lemmas.Cmp.{nat_cmp_total}
 use Rattle.std.proofs.lemmas.List.{get_or-reverse}
-use Rattle.std.proofs.lemmas.List.Elements.{Contains-push, Contains-push_cases, Contains-append_left}
+use Rattle.std.proofs.lemmas.List.Elements.{All-contains, Contains-push, Contains-push_cases, Contains-append_left}
 use Rattle.std.proofs.lemmas.Map.Lookups.{exact_unsigned}
 use Rattle.std.proofs.lemmas.Map.Views.{btree_set_contains_iff, tells_apart}
 use Rattle.std.proofs.Math.ListN.{get_or-append}
 use Rattle.std.proofs.Math.Seq.{get_or-append_seam}
+use Rattle.std.specs.BTreeMap.Range.{IsLtBy}
 use Rattle.std.specs.BTreeSet.{BTreeSet, Updates, contains}
 use Rattle.std.specs.List.{Contains}
 use Rattle.std.specs.Cmp.{nat_cmp_is}
@@ -72,6 +73,14 @@ less_under x y h = elim (cases_lt x y) [
     | inr b ↦ let e = nat_cmp_is x y Equal (omega arith) in cc (e, h)
   ]
 ]
+
+-- what stands before the last one is below it
+pub under : (rest : List ℕ) (q : ℕ) → ((k : ℕ) (d : ℕ) → k < length rest → IsLtBy nat_cmp (get_or rest k d) q) → (x : ℕ) → Contains rest x → x < q
+under rest q all x h = less_under x q (All-contains (λ y. IsLtBy nat_cmp y q) rest x all h)
+
+pub none_left : (ks : List ℕ) → (0 < length ks → false ≡ true) → ks ≡ []
+none_left [] h = refl
+none_left (k ∷ ks) h = let e = h (grind arith) in cc
 
 -- ---- one more than the greatest
 pub top : List ℕ → ℕ

@@ -5,4 +5,5 @@ pub mod Nodes
 pub mod Op
 pub mod Own
 pub mod Part
+pub mod Readable
 pub mod Shared

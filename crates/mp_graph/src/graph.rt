@@ -33,8 +33,8 @@ pub struct Ref<'g> {
 /// before it.
 #[derive(Drop)]
 pub struct Graph<'t> {
-    names: Names<'t>,
-    nodes: IndexSet<Node>,
+    pub(crate) names: Names<'t>,
+    pub(crate) nodes: IndexSet<Node>,
 }
 
 impl<'t> Model for Graph<'t> {

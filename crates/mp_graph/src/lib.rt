@@ -3,7 +3,9 @@
 
 pub mod fold;
 pub mod graph;
+pub mod images;
 pub mod kids;
+pub mod names;
 pub mod node_id;
 pub mod op;
 pub mod own;
@@ -12,6 +14,7 @@ pub mod tree;
 
 pub use fold::{Fold, folded, row_at};
 pub use graph::{Graph, Ref};
+pub use images::{Images, images_law};
 pub use node_id::NodeId;
 pub use op::{BinaryOp, LeafOp, NodeOp};
 pub use own::own_laws;

@@ -51,7 +51,7 @@ pub fn own_laws()
 {}
 
 // Adds these numbers.
-fn add_each(pending: &mut BTreeSet<usize>, kids: &[NodeId]) -> Result<(), NoMemory>
+pub(crate) fn add_each(pending: &mut BTreeSet<usize>, kids: &[NodeId]) -> Result<(), NoMemory>
     ensures { OnOk result (AddsEach kids.now pending.old.keys pending.new.keys) }
 {
     'kids: for kid in kids {

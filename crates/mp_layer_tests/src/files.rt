@@ -38,6 +38,22 @@ const WRONG_TOKENS: &[(&[u8], u32)] = &[
     (b"x.5;", 2),
 ];
 
+// The same of locals, tags, options, declared names and noted commands.
+const WRONG_TOKENS_OF_BLOCKS: &[(&[u8], u32)] = &[
+    (b"model; # = 1; end;", 4),
+    (b"model; [] x; end;", 4),
+    (b"model; [a=b] x; end;", 6),
+    (b"model; [a='b'] # g = 1; end;", 8),
+    (b"model(); end;", 3),
+    (b"model(a=); end;", 5),
+    (b"var $x$ y;", 2),
+    (b"var x (a='b') $x$;", 8),
+    (b"check x,;", 4),
+    (b"resid() x;", 3),
+    (b"a = diff x;", 4),
+    (b"a = diff(1, 2);", 6),
+];
+
 // The number of the text's wrong token, or 0 where it is a file.
 fn wrong_token(alloc: Global, text: &[u8]) -> Result<u32, Fail>
     requires { length text.now < 2 ^ 32 - 1 }
@@ -69,6 +85,14 @@ fn a_wrong_token_has_its_number(rt: HostRuntime) -> Result<(), Fail> {
     Ok(())
 }
 
+#[test]
+fn a_wrong_token_of_a_block_has_its_number(rt: HostRuntime) -> Result<(), Fail> {
+    for &(text, index) in WRONG_TOKENS_OF_BLOCKS {
+        assert_eq!(rt; wrong_token(rt.alloc(), text)?, index);
+    }
+    Ok(())
+}
+
 // A file with each kind of statement and of atom.
 const TEXT: &[u8] =
     b"parameters a, b; a = 0.50; b = -a*(2-.5e1); varexo e; var y x; model; -x(+01)*2.50/(a)-min(1,y)^-2 = max(y,e(-3))^(4*a); x; end;";
@@ -88,9 +112,20 @@ fn printed(alloc: Global, text: &[u8]) -> Result<Bytes, Fail>
     }
 }
 
+// What a file keeps of a declared name is the name, and of a noted command its names.
+const NAMED: &[u8] =
+    b"var x $x_t$ (long_name='a,b', c=\"it's\"), y$$; check; rplot(a=1, b) x, y; model(linear,a=-.5,b=c,d='e'); # g=diff(-x) ; [name='a b', c=\"d\"]y=diff(diff(g)+1); end;";
+
+const NAMED_PRINTED: &[u8] =
+    b"var x y;\ncheck;\nrplot x y;\nmodel(linear,a=-.5,b=c,d='e');\n# g = diff(-x);\n[name='a b',c=\"d\"] y = diff(diff(g)+1);\nend;\n";
+
 #[test]
 fn a_file_is_printed_as_it_was_read(rt: HostRuntime) -> Result<(), Fail> {
     let bytes = printed(rt.alloc(), TEXT)?;
     assert_eq!(rt; bytes.as_slice(), PRINTED);
+    let named = printed(rt.alloc(), NAMED)?;
+    assert_eq!(rt; named.as_slice(), NAMED_PRINTED);
+    let again = printed(rt.alloc(), NAMED_PRINTED)?;
+    assert_eq!(rt; again.as_slice(), NAMED_PRINTED);
     Ok(())
 }

@@ -46,20 +46,30 @@ impl From<NoMemory> for ExpandFault {
 }
 
 /// Why an expansion stops, in few bytes, since many parts of files are expanded inside one another.
-#[derive(Drop)]
+#[derive(Drop, Error)]
 pub enum Stop {
+    #[error("line {line} is refused as {kind:?}")]
     Macro {
         kind: MacroKind,
         file: Boxed<Label>,
         line: u32,
     },
+    #[error("a file is absent")]
     Absent {
         name: Boxed<Label>,
     },
+    #[error("reading has failed {count} times")]
     ReadFault {
         count: u64,
     },
+    #[error("there was no memory")]
     NoMemory,
+}
+
+impl fmt::Debug for Stop {
+    fn fmt<W: fmt::Write>(&self, f: &mut fmt::Formatter<W>) -> fmt::Result {
+        fmt::Display::fmt(self, f)
+    }
 }
 
 impl From<NoMemory> for Stop {

@@ -12,14 +12,17 @@ use crate::token::{Mark, Token};
 use mp_base::NoMemory;
 use sqlite_items::Items;
 use std::alloc::{AllocError, Global};
+use thiserror::Error;
 
 /// The tokens that are not read yet.
 pub type Rest<'a, 't> = &'a [Token<'t>];
 
 /// Why nothing was read: a token is wrong, or there was no memory.
-#[derive(Clone, Copy, Debug, PartialEq, Eq)]
+#[derive(Clone, Copy, Debug, PartialEq, Eq, Error)]
 pub enum Unread {
+    #[error("a token is wrong")]
     Wrong,
+    #[error("there was no memory")]
     NoMemory,
 }
 

@@ -5,4 +5,4 @@ pub mod model;
 pub mod parts;
 
 pub use model::Model;
-pub use parts::{Lent, Parameter, Sides};
+pub use parts::{Equation, Lent, Parameter, Parts};

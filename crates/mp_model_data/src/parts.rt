@@ -3,9 +3,10 @@
 use mp_frac::Frac;
 use mp_graph::{Graph, NodeId};
 
-/// The two sides of an equation, nodes of a graph.
+/// An equation: its name, if it has one, and its two sides, nodes of a graph.
 #[derive(Clone, Copy)]
-pub struct Sides {
+pub struct Equation<'t> {
+    pub name: Option<&'t [u8]>,
     pub left: NodeId,
     pub right: NodeId,
 }
@@ -17,10 +18,19 @@ pub struct Parameter<'t> {
     pub value: Frac,
 }
 
-/// The two sides of an equation, lent with the graph in which they stand.
+/// An equation, lent with the graph in which its sides stand.
 #[derive(Clone, Copy)]
 pub struct Lent<'g, 't> {
     pub graph: &'g Graph<'t>,
+    pub name: Option<&'t [u8]>,
     pub left: NodeId,
     pub right: NodeId,
+}
+
+/// A model taken apart, without its source.
+#[derive(Drop)]
+pub struct Parts<'t> {
+    pub graph: Graph<'t>,
+    pub parameters: Vec<Parameter<'t>>,
+    pub equations: Vec<Equation<'t>>,
 }

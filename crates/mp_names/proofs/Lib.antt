@@ -1,3 +1,4 @@
+pub mod Apart
 pub mod EntryLaws
 pub mod KeyLaws
 pub mod Room

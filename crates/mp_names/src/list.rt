@@ -98,6 +98,13 @@ impl<'t> NameList<'t> {
         self.set.as_slice()
     }
 
+    /// The names are distinct.
+    pub fn distinct(&self)
+        ensures { IsDistinct bytes_eq self.now }
+    {
+        let _ = self.as_slice();
+    }
+
     /// How many names there are.
     pub fn count(&self) -> u32
         ensures count { result ≡ length self.now }

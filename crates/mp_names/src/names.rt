@@ -1,6 +1,8 @@
 // Names of three kinds.
 ghost use Rattle.std.specs.Prelude.{◌≡◌, ◌<◌, ◌+◌, ◌^◌, ℕ, ℤ, List, not, true, None, is_some, length, option_map, if◌then◌else◌, ◌↔◌, Err, IfOk, OnOk, OnErr};
+ghost use Rattle.std.specs.List.{IsDistinct};
 ghost use Rattle.std.specs.Option.{ForSome};
+ghost use Rattle.std.specs.Str.{bytes_eq};
 ghost use Rattle.mp_values.specs.Names as v;
 ghost use Rattle.mp_values.specs.Names.{named_term};
 ghost use Rattle.mp_names.specs.Full.{IsFullOf};
@@ -77,6 +79,25 @@ impl<'t> Names<'t> {
             NameKind::Exogenous => self.exogenous.add(name),
             NameKind::Parameter => self.parameters.add(name),
         }
+    }
+
+    /// Adds a name that is there under no kind, as the last one of its kind. A full list is taken for want of memory.
+    pub fn add_another(&mut self, kind: NameKind, name: &'t [u8]) -> Result<(), NoMemory>
+        requires { kind_in self.old name.now ≡ None }
+        ensures names { OnOk result (self.new ≡ with_name kind name.now self.old) }
+        ensures err { OnErr result (self.new ≡ self.old) }
+    {
+        match self.add_new(kind, name) {
+            Ok(_) => Ok(()),
+            Err(fault) => Err(fault.into()),
+        }
+    }
+
+    /// The names of a kind are distinct.
+    pub fn distinct(&self, kind: NameKind)
+        ensures { IsDistinct bytes_eq (of_kind kind self.now) }
+    {
+        self.of_kind(kind).distinct();
     }
 
     /// The kind of the name, if it is there.

@@ -7,7 +7,7 @@ use Rattle.std.proofs.lemmas.Nat.{same_from_place}
 use Rattle.std.proofs.lemmas.Option.{slice_get-map, slice_get-get_or, slice_get_within}
 use Rattle.mp_frac.specs.Value.{value_of}
 use Rattle.mp_frac.specs.declared.frac.Frac.{Frac}
-use Rattle.mp_base.specs.declared.span.Ratio.{Ratio}
+use Rattle.mp_base.specs.declared.fraction.Ratio.{Ratio}
 use Rattle.mp_rational.specs.Fraction.{Fraction}
 use Rattle.mp_rational.specs.Lowest.{numerator, denominator}
 use Rattle.mp_rational.proofs.Lowest.{ratio_of-parts}

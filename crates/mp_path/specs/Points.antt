@@ -2,7 +2,7 @@
 use Rattle.std.specs.Prelude.{ℕ, ℤ, pos, negsuc, ◌+◌, ◌-◌, ◌*◌, ◌≤◌, ◌<ℤ◌, List, slice_get, Option, None, option_map, if◌then◌else◌, nat_lt, refl}
 use Rattle.std.specs.Coded.{Coded, code_by, coded×, coded_ℕ, coded_ℤ, coded_list}
 use Rattle.std.specs.Int.RustNames.{unsigned_abs}
-use Rattle.mp_base.specs.declared.span.Ratio.{Ratio}
+use Rattle.mp_base.specs.declared.fraction.Ratio.{Ratio}
 use Rattle.mp_rational.specs.Fraction.{Fraction, ratio_of}
 use Rattle.mp_fix.specs.Units.{part_limit}
 use Rattle.mp_semantics.specs.Term.{Variable, endogenous, exogenous}

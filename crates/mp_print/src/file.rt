@@ -5,19 +5,20 @@ ghost use Rattle.mp_statements.specs.declared.kind.NameKind.TheVariants as kind;
 ghost use Rattle.mp_statements.specs.Statements as s;
 ghost use Rattle.mp_grammar.specs.Statements.{IsFile};
 ghost use Rattle.mp_grammar.specs.Grammar.{file_text, ReadsBack};
-ghost use Rattle.mp_file.specs.Shown.{named_of, item_of, expr_of, statement_of, file_of};
-ghost use Rattle.mp_canonical.specs.Spelled.{kind_word, right_text, item_text, statement_text, lines_of};
+ghost use Rattle.mp_file.specs.Shown.{named_of, choice_of, equation_of, item_of, expr_of, statement_of, file_of};
+ghost use Rattle.mp_canonical.specs.Spelled.{kind_word, command_word, right_text, item_text, statement_text, lines_of};
 ghost use Rattle.mp_print.specs.Parts.{named_text};
 
 use crate::expression::put_expression;
+use crate::listed::{put_choices, put_tags};
 use mp_base::{Bytes, NoMemory};
-use mp_file::{Expression, File, Item, Named, Statement};
-use mp_statements::NameKind;
+use mp_file::{Choice, Equation, Expression, File, Item, Named, Statement};
+use mp_statements::{Command, NameKind};
 use std::alloc::Global;
 
-/// The text of a file as it was read: each statement and each equation on a line of its own, expressions without blanks,
-/// names, numbers and parentheses as written, and a shift with its sign. It reads back to the same file. The layout is
-/// modpath's own.
+/// The text of a file as it was read: each statement and each item of a model on a line of its own, expressions without
+/// blanks, names, numbers, texts and parentheses as written, and a shift with its sign. What a file does not keep, as
+/// the TeX names of its variables, is not printed. It reads back to the same file. The layout is modpath's own.
 pub fn print(alloc: Global, file: &File) -> Result<Bytes, NoMemory>
     ensures spelled { IfOk result (λ text. text ≡ file_text (file_of file.now)) }
     ensures back { IfOk result (λ text. IsFile (file_of file.now) → ReadsBack text (file_of file.now)) }
@@ -49,7 +50,10 @@ fn put_statement(out: &mut Bytes, statement: &Statement) -> Result<(), NoMemory>
     match statement {
         Statement::Declares { kind, names } => put_declares(out, *kind, names.as_slice()),
         Statement::Assigns { name, value } => put_assigns(out, name, value),
-        Statement::Model { at, items } => put_model(out, *at, items.as_slice()),
+        Statement::Model { at, choices, items } => {
+            put_model(out, *at, choices.as_slice(), items.as_slice())
+        }
+        Statement::Notes { command, names } => put_notes(out, *command, names.as_slice()),
     }
 }
 
@@ -97,10 +101,12 @@ fn put_assigns(out: &mut Bytes, name: &Named, value: &Expression) -> Result<(), 
 }
 
 // A model block, which begins at this place.
-fn put_model(out: &mut Bytes, at: u32, items: &[Item]) -> Result<(), NoMemory>
-    ensures { OnOk result (out.new ≡ out.old ++ statement_text (s.Model at (map item_of items.now))) }
+fn put_model(out: &mut Bytes, at: u32, choices: &[Choice], items: &[Item]) -> Result<(), NoMemory>
+    ensures { OnOk result (out.new ≡ out.old ++ statement_text (s.Model at (map choice_of choices.now) (map item_of items.now))) }
 {
-    out.add(b"model;\n")?;
+    out.add(b"model")?;
+    put_choices(out, choices)?;
+    out.add(b";\n")?;
     put_items(out, items)?;
     out.add(b"end;\n")
 }
@@ -114,13 +120,57 @@ fn put_items(out: &mut Bytes, items: &[Item]) -> Result<(), NoMemory>
     Ok(())
 }
 
-// The line of an equation.
 fn put_item(out: &mut Bytes, item: &Item) -> Result<(), NoMemory>
     ensures { OnOk result (out.new ≡ out.old ++ item_text (item_of item.now)) }
 {
-    put_expression(out, &item.left)?;
-    put_right(out, &item.right)?;
+    match item {
+        Item::Local { name, value } => put_local(out, name, value),
+        Item::Equates { equation } => put_equation(out, equation),
+    }
+}
+
+// The line of a local variable.
+fn put_local(out: &mut Bytes, name: &Named, value: &Expression) -> Result<(), NoMemory>
+    ensures { OnOk result (out.new ≡ out.old ++ item_text (s.Local (named_of name.now) (expr_of value.now))) }
+{
+    out.add(b"# ")?;
+    out.add(name.name)?;
+    out.add(b" = ")?;
+    put_expression(out, value)?;
     out.add(b";\n")
+}
+
+// The line of an equation.
+fn put_equation(out: &mut Bytes, equation: &Equation) -> Result<(), NoMemory>
+    ensures { OnOk result (out.new ≡ out.old ++ item_text (s.Equates (equation_of equation.now))) }
+{
+    put_tags(out, equation.tags.as_slice())?;
+    put_expression(out, &equation.left)?;
+    put_right(out, &equation.right)?;
+    out.add(b";\n")
+}
+
+// The line of a noted command.
+fn put_notes(out: &mut Bytes, command: Command, names: &[Named]) -> Result<(), NoMemory>
+    ensures { OnOk result (out.new ≡ out.old ++ statement_text (s.Notes command (map named_of names.now))) }
+{
+    put_command(out, command)?;
+    put_names(out, names)?;
+    out.add(b";\n")
+}
+
+// The word of a noted command.
+fn put_command(out: &mut Bytes, command: Command) -> Result<(), NoMemory>
+    ensures { OnOk result (out.new ≡ out.old ++ command_word command) }
+{
+    match command {
+        Command::Check => out.add(b"check"),
+        Command::Resid => out.add(b"resid"),
+        Command::Rplot => out.add(b"rplot"),
+        Command::ModelDiagnostics => out.add(b"model_diagnostics"),
+        Command::OccbinSetup => out.add(b"occbin_setup"),
+        Command::OccbinSolver => out.add(b"occbin_solver"),
+    }
 }
 
 // A right side that is written.

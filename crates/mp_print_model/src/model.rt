@@ -1,21 +1,23 @@
 // The text of a model.
-ghost use Rattle.std.specs.Prelude.{◌≡◌, ◌++◌, map, OnOk, IfOk};
+ghost use Rattle.std.specs.Prelude.{◌≡◌, [], ◌∷◌, ◌++◌, map, option_map, OnOk, IfOk};
 ghost use Rattle.std.specs.List.{flat_map, AllByRecursion};
-ghost use Rattle.mp_model_data.specs.Shown.{IsWithin, parameter_of, equation_in, model_data};
-ghost use Rattle.mp_canonical.specs.Files.{names_part, value_part, equation_part, equations_part, canonical_text};
-ghost use Rattle.mp_canonical.specs.Spelled.{item_text, kind_word, name_text, statement_text, lines_of};
+ghost use Rattle.mp_model_data.specs.Shown.{IsWithin, parameter_of, sides_of, equation_in, model_data};
+ghost use Rattle.mp_canonical.specs.Files.{quote_of, tags_part, names_part, value_part, equation_part, equations_part, canonical_text};
+ghost use Rattle.mp_canonical.specs.Printable.{stands_in};
+ghost use Rattle.mp_canonical.specs.Spelled.{item_text, kind_word, tags_text, name_text, statement_text, lines_of};
 
 use crate::node::put_node;
 use crate::number::put_fraction;
 use mp_base::{Bytes, NoMemory};
 use mp_graph::Graph;
-use mp_model_data::{Model, Parameter, Sides};
+use mp_model_data::{Equation, Model, Parameter};
 use mp_names::NameList;
 use mp_statements::NameKind;
 use std::alloc::Global;
 
 /// The canonical text of a model: its names, the values of its parameters, and its equations, each part where it has
-/// content and each equation on a line of its own. It reads back to the model. The layout is modpath's own.
+/// content and each equation on a line of its own, after the tag of its name if it has one. It reads back to the model.
+/// The layout is modpath's own.
 pub fn print_model(alloc: Global, model: &Model) -> Result<Bytes, NoMemory>
     ensures { IfOk result (λ text. text ≡ canonical_text (model_data model.now)) }
 {
@@ -96,9 +98,9 @@ fn put_value(out: &mut Bytes, parameter: &Parameter) -> Result<(), NoMemory>
 }
 
 // The model block, if there are equations.
-fn put_equations(out: &mut Bytes, graph: &Graph, equations: &[Sides]) -> Result<(), NoMemory>
-    requires { AllByRecursion (IsWithin graph.now) equations.now }
-    ensures { OnOk result (out.new ≡ out.old ++ lines_of (equations_part graph.now.names (map (equation_in graph.now.terms) equations.now))) }
+fn put_equations(out: &mut Bytes, graph: &Graph, equations: &[Equation]) -> Result<(), NoMemory>
+    requires { AllByRecursion (IsWithin graph.now) (map sides_of equations.now) }
+    ensures { OnOk result (out.new ≡ out.old ++ lines_of (equations_part graph.now.names (map (equation_in graph.now.terms) (map sides_of equations.now)))) }
 {
     if equations.is_empty() {
         return Ok(());
@@ -108,23 +110,51 @@ fn put_equations(out: &mut Bytes, graph: &Graph, equations: &[Sides]) -> Result<
     out.add(b"end;\n")
 }
 
-fn put_each_equation(out: &mut Bytes, graph: &Graph, equations: &[Sides]) -> Result<(), NoMemory>
-    requires { AllByRecursion (IsWithin graph.now) equations.now }
-    ensures { OnOk result (out.new ≡ out.old ++ flat_map item_text (map (equation_part graph.now.names) (map (equation_in graph.now.terms) equations.now))) }
+fn put_each_equation(out: &mut Bytes, graph: &Graph, equations: &[Equation]) -> Result<(), NoMemory>
+    requires { AllByRecursion (IsWithin graph.now) (map sides_of equations.now) }
+    ensures { OnOk result (out.new ≡ out.old ++ flat_map item_text (map (equation_part graph.now.names) (map (equation_in graph.now.terms) (map sides_of equations.now)))) }
 {
-    'turns: for sides in equations {
-        put_equation(out, graph, *sides)?;
+    'turns: for equation in equations {
+        put_equation(out, graph, equation)?;
     }
     Ok(())
 }
 
-// The line of an equation.
-fn put_equation(out: &mut Bytes, graph: &Graph, sides: Sides) -> Result<(), NoMemory>
-    requires { IsWithin graph.now sides }
-    ensures { OnOk result (out.new ≡ out.old ++ item_text (equation_part graph.now.names (equation_in graph.now.terms sides))) }
+// The line of an equation, with the tag of its name before it, if it has one.
+fn put_equation(out: &mut Bytes, graph: &Graph, equation: &Equation) -> Result<(), NoMemory>
+    requires { IsWithin graph.now (sides_of equation.now) }
+    ensures { OnOk result (out.new ≡ out.old ++ item_text (equation_part graph.now.names (equation_in graph.now.terms (sides_of equation.now)))) }
 {
-    put_node(out, graph, sides.left)?;
+    put_tag(out, equation.name)?;
+    put_node(out, graph, equation.left)?;
     out.add(b" = ")?;
-    put_node(out, graph, sides.right)?;
+    put_node(out, graph, equation.right)?;
     out.add(b";\n")
+}
+
+fn put_tag(out: &mut Bytes, name: Option<&[u8]>) -> Result<(), NoMemory>
+    ensures { OnOk result (out.new ≡ out.old ++ tags_text (tags_part (option_map (λ n. n.now) name.entry))) }
+{
+    let Some(name) = name else {
+        return Ok(());
+    };
+    let quote = quote_of(name);
+    out.add(b"[name=")?;
+    out.add(quote)?;
+    out.add(name)?;
+    out.add(quote)?;
+    out.add(b"] ")
+}
+
+// A double quote, where the name does not stand between single ones.
+fn quote_of(name: &[u8]) -> &'static [u8]
+    ensures { result.now ≡ quote_of name.now ∷ [] }
+{
+    if stands_in_single(name) { b"'" } else { b"\"" }
+}
+
+fn stands_in_single(name: &[u8]) -> bool
+    ensures { result ≡ stands_in 39 name.now }
+{
+    name.iter().all(|b| *b != b'\'' && *b != b'\n')
 }

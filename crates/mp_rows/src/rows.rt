@@ -32,7 +32,7 @@ const EMPTY: Row<'static> = Row {
     text: b"",
     part: b"",
     failing_fetch: 0,
-    out_room: 512,
+    out_room: 4096,
     err_room: 512,
     status: 0,
     out: b"",

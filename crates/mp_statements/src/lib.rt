@@ -1,6 +1,6 @@
-//! Statements as definitions. The code here is the enum that the definitions and every layer above share.
+//! Statements as definitions. The code here is the enums that the definitions and every layer above share.
 #![tactic(auto)]
 
 pub mod kind;
 
-pub use kind::NameKind;
+pub use kind::{Command, NameKind};

@@ -2,7 +2,7 @@
 use Rattle.std.specs.Prelude.{ℕ, List, [], ◌++◌, codes, decimal, unsigned_abs, if◌then◌else◌, ◌==◌}
 use Rattle.std.specs.Fmt.{signed_decimal}
 use Rattle.mp_base.specs.Decimals.{decimal_text}
-use Rattle.mp_base.specs.declared.span.Ratio.{Ratio}
+use Rattle.mp_base.specs.declared.fraction.Ratio.{Ratio}
 use Rattle.mp_base.specs.declared.outcome.Outcome.{Outcome}
 use Rattle.mp_base.specs.declared.outcome.Outcome.TheVariants.{Done, Refused}
 use Rattle.mp_base.specs.declared.refusal.Refusal.{Refusal}

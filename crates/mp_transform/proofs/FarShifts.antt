@@ -1,7 +1,6 @@
--- Where each number of a text is in range, no name is shifted by more than 10^37 periods.
+-- Where each number of a text is in range, no name is written with a shift by more than 10^37 periods.
 use Rattle.std.proofs.Common.{◌≡◌, ℕ, ◌^◌, ◌≤◌, List, [], ◌∷◌, Bool, true, false, cond, ◌&&◌, not, nat_le, bytes_eq, Some, None, option_map, Ok, subst, refl, sym, ap, ◌∙◌, arith}
-use Rattle.std.specs.List.{find, list_all}
-use Rattle.std.specs.Option.{ForSome}
+use Rattle.std.specs.List.{AllByRecursion, find, list_all, flat_map}
 use Rattle.std.proofs.lemmas.Bool.{and_parts}
 use Rattle.std.proofs.lemmas.Bool.Decides.{nat_tests}
 use Rattle.mp_tokens.specs.declared.token.TokenKind.{TokenKind}
@@ -19,9 +18,11 @@ use Rattle.mp_format.proofs.ReadLaws.{is-same}
 use Rattle.mp_format.proofs.TokenForms.{Carries, IsToken}
 use Rattle.mp_format.proofs.TokenWords.{tokens-words}
 use Rattle.mp_grammar.specs.Grammar.{ReadsFile}
-use Rattle.mp_declared.specs.Shifts.{far_shift}
+use Rattle.mp_statements.specs.Parts.{items_of}
+use Rattle.mp_values.specs.Shifts.{Reading, item_readings}
+use Rattle.mp_local.specs.Written.{IsWritten, AreWritten}
 use Rattle.mp_canonical.proofs.Literals.{decimal_of-digits}
-use Rattle.mp_transform.proofs.ReadShifts.{IsWithin, far_within}
+use Rattle.mp_transform.proofs.ReadShifts.{IsWithin, IsNear, read_near}
 
 in_order : (n : ℕ) → not (nat_le n (10 ^ 37) && nat_le 0 37) ≡ false → n ≤ 10 ^ 37
 in_order n e = grind (arith, nat_tests)
@@ -71,6 +72,10 @@ each_within (w ∷ ts) are none = by (is_far w) refl none (each_within ts are.1)
     by true e h more = absurd cc
     by false e h more = (within w are.0 e, more h)
 
-pub shifts-near : (text : List ℕ) (ts : List Tok) (file : List Statement) → tokens text ≡ Ok ts → ReadsFile ts file → far_literal ts ≡ None → ForSome (far_shift file) (λ x. x.1 ≤ 10 ^ 37)
-shifts-near text ts file e reads none =
-    far_within (10 ^ 37) ts file (each_within ts (tokens-words text ts e) none) reads
+written : (rs : List Reading) → AllByRecursion (IsNear (10 ^ 37) 500) rs → AllByRecursion IsWritten rs
+written [] near = tt
+written (r ∷ rs) near = (record { periods = near.0.periods; depth = near.0.depth_is }, written rs near.1)
+
+pub are-written : (text : List ℕ) (ts : List Tok) (file : List Statement) → tokens text ≡ Ok ts → ReadsFile ts file → far_literal ts ≡ None → AreWritten (items_of file)
+are-written text ts file e reads none =
+    written (flat_map item_readings (items_of file)) (read_near (10 ^ 37) ts file (each_within ts (tokens-words text ts e) none) reads)

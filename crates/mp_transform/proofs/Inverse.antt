@@ -1,22 +1,29 @@
 -- What came before the last step.
-use Rattle.std.proofs.Common.{◌≡◌, ℕ, ◌≤◌, List, length, true, false, Bool, Some, Result, Ok, Err, refl, sym, ap, subst, arith, nat_le, if◌then◌else◌}
+use Rattle.std.proofs.Common.{◌≡◌, ℕ, pos, ◌≤◌, max, List, [], ◌∷◌, map, length, true, false, Bool, Some, None, Option, Result, Ok, Err, refl, sym, ap, ◌∙◌, subst, arith, nat_le, if◌then◌else◌}
+use Rattle.std.specs.List.{AllByRecursion}
 use Rattle.mp_base.specs.declared.refusal.Refusal.{Refusal}
-use Rattle.mp_base.specs.declared.refusal.Refusal.TheVariants as o
+use Rattle.mp_base.specs.declared.kinds.DataKind.{DataKind}
 use Rattle.mp_base.specs.declared.kinds.DataKind.TheVariants as d
+use Rattle.mp_rational.specs.Fraction as fraction
 use Rattle.mp_tokens.specs.Tokens.{Tok, Fault, BadByte, LongName, OpenComment, OpenText, tokens}
 use Rattle.mp_statements.specs.Statements.{Statement}
 use Rattle.mp_grammar.specs.Grammar.{ReadsFile, file_read}
-use Rattle.mp_declared.specs.Heights.{greatest_height}
-use Rattle.mp_declared.specs.Shifts.{far_shift}
-use Rattle.mp_semantics.specs.Model.{Model}
-use Rattle.mp_values.specs.Limits.{Folded}
+use Rattle.mp_semantics.specs.Model.{Model, Equation}
+use Rattle.mp_expr.specs.Size.{height_of}
+use Rattle.mp_solutions.specs.Transformed.{transformed}
+use Rattle.mp_values.specs.Limits.{Folded, ◌>>=◌, Refused}
 use Rattle.mp_values.specs.ModelOf.{model_given, model_of}
 use Rattle.mp_canonical.specs.Files.{canonical_text}
+use Rattle.mp_canonical.specs.Printable.{IsLow, HasFreeNames}
 use Rattle.mp_model.specs.Headline.{KeepsSolutions}
 use Rattle.mp_decl.specs.Given.{declared_given}
-use Rattle.mp_transform.specs.Steps.{Step, and_then, whole}
-use Rattle.mp_transform.specs.Text.{token_step, file_step, shift_step, deep_step, model_step, limited, tested, tokens_give, model_of_text, text_gives}
-use Rattle.mp_transform.specs.Canonical.{IsCanonical}
+use Rattle.mp_local.specs.Local as local
+use Rattle.mp_local.specs.Local.{over_limit, names_refusal, shifts_refusal, height_refusal, size_refusal, sized, local_given}
+use Rattle.mp_local.specs.Sizes.{sides_of, greatest, greatest_height}
+use Rattle.mp_shift.specs.Faults.{name_fault}
+use Rattle.mp_transform.specs.Steps.{Step, and_then}
+use Rattle.mp_transform.specs.Text.{token_step, file_step, model_step, limited, name_step, named_step, sourced, tested, tokens_give, model_of_text, text_gives}
+use Rattle.mp_transform.specs.Canonical.{IsCanonical, HasNames}
 
 -- a step that gave something came after one that did
 pub before : {X Y : Type 0} (r : Step X) (next : X → Step Y) (y : Y) → and_then r next ≡ Ok y → (x : X) × (r ≡ Ok x) × (next x ≡ Ok y)
@@ -34,18 +41,52 @@ pub parsed : (end : ℕ) (r : Result (List Statement) (List Tok)) (file : List S
 parsed end (Ok f) file e = let same : f ≡ file = cc in ap Ok same
 parsed end (Err left) file e = let k : ⊥ = cc in absurd k
 
-low_by : (b : Bool) (x : Refusal) → (let r : Step (Unit {0}) = if b then Ok tt else Err x in r ≡ Ok tt) → b ≡ true
-low_by true x e = refl
-low_by false x e = let k : ⊥ = cc in absurd k
-
-pub low : (tall : ℕ) (u : Unit {0}) → deep_step tall ≡ Ok u → tall ≤ 500
-low tall u e =
-    let b : nat_le tall 500 ≡ true = low_by (nat_le tall 500) (o.Data (record { kind = d.TooDeep; at = 0; first = whole tall; second = whole 500 })) e in
-    grind (arith, b)
+-- where the greatest height is low, each side is
+each_low : (room : ℕ) (es : List Equation) → greatest (map height_of (sides_of es)) ≤ room → AllByRecursion (IsLow room) es
+each_low room [] h = tt
+each_low room (e ∷ es) h =
+    let l = by (height_of e.left) (height_of e.right) (greatest (map height_of (sides_of es))) h in ((l.0, l.1), each_low room es l.2)
+  where
+    by : (a b c : ℕ) → max a (max b c) ≤ room → (a ≤ room) × (b ≤ room) × (c ≤ room)
+    by a b c h = (omega arith, omega arith, omega arith)
 
 pub meant : (end : ℕ) (r : Folded Model) (M : Model) → model_step end r ≡ Ok M → r ≡ Ok M
 meant end (Ok N) M e = let same : N ≡ M = cc in ap Ok same
 meant end (Err stuck) M e = let k : ⊥ = cc in absurd k
+
+-- what went on came after what was there
+after : {A B : Type 0} (r : Folded A) (next : A → Folded B) (y : B) → (r >>= next) ≡ Ok y → (x : A) × (r ≡ Ok x) × (next x ≡ Ok y)
+after (Ok x) next y e = (x, refl, e)
+after (Err stuck) next y e = let k : ⊥ = cc in absurd k
+
+-- a test that went well found nothing
+not_over : (kind : DataKind) (number limit : ℕ) (u : Unit {0}) → local.tested (over_limit kind number limit) ≡ Ok u → number ≤ limit
+not_over kind number limit u e = by (nat_le number limit) refl e
+  where
+    by : (b : Bool) → nat_le number limit ≡ b → local.tested (if b then None else Some (Refused kind 0 (fraction.whole (pos number)) (fraction.whole (pos limit)))) ≡ Ok u → number ≤ limit
+    by true low h = grind (arith, low)
+    by false high h = let k : ⊥ = cc in absurd k
+
+same_folded : (M N : Model) → (let r : Folded Model = Ok M in r ≡ Ok N) → M ≡ N
+same_folded M N e = cc
+
+-- a model within the limits is the file's, and low
+pub record Local (file : List Statement) (M : Model) : Type 0 where
+  pub is_model : model_given file ≡ Ok M
+  pub are_low : AllByRecursion (IsLow 500) M.equations
+
+local_is : (file : List Statement) (M : Model) → local_given file ≡ Ok M → Local file M
+local_is file M e =
+    let n = after (local.tested (names_refusal file)) (λ _. local.tested (shifts_refusal (λ x. x) file) >>= λ _. model_given file >>= λ N. sized N) M e in
+    let s = after (local.tested (shifts_refusal (λ x. x) file)) (λ _. model_given file >>= λ N. sized N) M n.2 in
+    let g = after (model_given file) sized M s.2 in
+    let h = after (local.tested (height_refusal g.0)) (λ _. local.tested (size_refusal g.0) >>= λ _. Ok g.0) M g.2 in
+    let z = after (local.tested (size_refusal g.0)) (λ _. Ok g.0) M h.2 in
+    let same : g.0 ≡ M = same_folded g.0 M z.2 in
+    record {
+      is_model = g.1 ∙ ap Ok same;
+      are_low = subst (λ (N : Model). AllByRecursion (IsLow 500) N.equations) same (each_low 500 g.0.equations (not_over d.TooDeep (greatest_height g.0) 500 h.0 h.1));
+    }
 
 -- a text with canonical bytes has tokens, a file and a model
 pub record Came (text : List ℕ) (M : Model) : Type 0 where
@@ -53,44 +94,45 @@ pub record Came (text : List ℕ) (M : Model) : Type 0 where
   pub file : List Statement
   pub are_tokens : tokens text ≡ Ok ts
   pub is_file : file_read ts ≡ Ok file
-  pub is_low : greatest_height file ≤ 500
-  pub is_model : model_given file ≡ Ok M
+  pub is_local : Local file M
+
+same_ok : (M N : Model) → (let r : Step Model = Ok M in r ≡ Ok N) → M ≡ N
+same_ok M N e = cc
 
 pub came : (text : List ℕ) (M : Model) → model_of_text text ≡ Ok M → Came text M
 came text M e =
-    let t = before (token_step (tokens text)) (tokens_give (length text)) M e in
-    let f = before (file_step (length text) (file_read t.0)) (tested (length text) t.0) M t.2 in
+    let end = length text in
+    let t = before (token_step (tokens text)) (tokens_give end) M e in
+    let f = before (file_step end (file_read t.0)) (tested end t.0) M t.2 in
     let file = f.0 in
-    let deep : Step Model = and_then (deep_step (greatest_height file)) (λ _. model_step (length text) (model_given file)) in
-    let a = before (declared_given (length text) t.0 file) (λ _. limited (length text) file) M f.2 in
-    let b = before (shift_step (far_shift file)) (λ _. deep) M a.2 in
-    let c = before (deep_step (greatest_height file)) (λ _. model_step (length text) (model_given file)) M b.2 in
+    let l = before (sourced end t.0 file) (named_step file) M f.2 in
+    let a = before (declared_given end t.0 file) (λ _. limited end file) l.0 l.1 in
+    let n = before (name_step (name_fault file l.0)) (λ _. Ok l.0) M l.2 in
     record {
       ts = t.0;
       file = file;
       are_tokens = lexed (tokens text) t.0 t.1;
-      is_file = parsed (length text) (file_read t.0) file f.1;
-      is_low = low (greatest_height file) c.0 c.1;
-      is_model = meant (length text) (model_given file) M c.2;
+      is_file = parsed end (file_read t.0) file f.1;
+      is_local = local_is file M (meant end (local_given file) l.0 a.2 ∙ ap Ok (same_ok l.0 M n.2));
     }
 
 -- the bytes that a text gives are its canonical text
 pub canonical : ((ts : List Tok) (file : List Statement) → file_read ts ≡ Ok file → ReadsFile ts file)
     → ((file : List Statement) (M : Model) → model_given file ≡ Ok M → model_of file ≡ Some M)
-    → ((text : List ℕ) (ts : List Tok) (file : List Statement) (M : Model) → tokens text ≡ Ok ts → ReadsFile ts file → model_given file ≡ Ok M → greatest_height file ≤ 500 → KeepsSolutions file (canonical_text M))
-    → (text written : List ℕ) → text_gives text ≡ Ok written → IsCanonical text written
-canonical found means headline text written e =
-    let m = before (model_of_text text) (λ M. Ok (canonical_text M)) written e in
+    → ((text : List ℕ) (ts : List Tok) (file : List Statement) (M : Model) → tokens text ≡ Ok ts → ReadsFile ts file → model_given file ≡ Ok M → AllByRecursion (IsLow 500) M.equations → HasFreeNames M → KeepsSolutions file (canonical_text (transformed M)))
+    → (text written : List ℕ) → HasNames (model_of_text text) → text_gives text ≡ Ok written → IsCanonical text written
+canonical found means headline text written names e =
+    let m = before (model_of_text text) (λ M. Ok (canonical_text (transformed M))) written e in
     let c = came text m.0 m.1 in
     let reads = found c.ts c.file c.is_file in
-    let same : written ≡ canonical_text m.0 = cc in
+    let same : written ≡ canonical_text (transformed m.0) = cc in
     record {
       ts = c.ts;
       file = c.file;
       model = m.0;
       lexed = c.are_tokens;
       reads = reads;
-      means = means c.file m.0 c.is_model;
+      means = means c.file m.0 c.is_local.is_model;
       printed = same;
-      keeps = subst (λ (w : List ℕ). KeepsSolutions c.file w) (sym same) (headline text c.ts c.file m.0 c.are_tokens reads c.is_model c.is_low);
+      keeps = subst (λ (w : List ℕ). KeepsSolutions c.file w) (sym same) (headline text c.ts c.file m.0 c.are_tokens reads c.is_local.is_model c.is_local.are_low (subst HasNames m.1 names));
     }

@@ -1,4 +1,5 @@
 pub mod FarShifts
+pub mod FreeNames
 pub mod Inverse
 pub mod Places
 pub mod ReadShifts

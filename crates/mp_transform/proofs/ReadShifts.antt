@@ -1,43 +1,44 @@
--- No name that a file reads is shifted by more than the greatest whole number of its tokens.
-use Rattle.std.proofs.Common.{◌≡◌, ℕ, zero, suc, ◌≤◌, List, [], ◌∷◌, ◌++◌, Bool, true, false, inl, inr, Option, Some, None, cond, flat_map, sym, subst, arith}
+-- In a file each name is shifted by at most the greatest whole number of its tokens, and stands in at most 500 `diff`.
+use Rattle.std.proofs.Common.{◌≡◌, ℕ, zero, suc, ◌+◌, ◌≤◌, pos, neg_ℤ, unsigned_abs, List, [], ◌∷◌, ◌++◌, Bool, true, false, inl, inr, Option, Some, None, cond, flat_map, refl, sym, subst, arith, le_trans}
 use Rattle.std.specs.List.{AllByRecursion}
 use Rattle.std.proofs.lemmas.List.Concat.{flat_map-append}
-use Rattle.std.specs.Option.{ForSome}
 use Rattle.mp_tokens.specs.declared.terminal.Terminal.TheVariants as t
 use Rattle.mp_tokens.specs.Tokens.{Tok}
 use Rattle.mp_tokens.specs.Literals.{number_of}
 use Rattle.mp_syntax.specs.declared.operator.Sign.{Sign}
+use Rattle.mp_syntax.specs.declared.operator.Sign.TheVariants as sign
 use Rattle.mp_syntax.specs.declared.operator.Operator.{Operator}
 use Rattle.mp_syntax.specs.declared.operator.Function.{Function}
-use Rattle.mp_syntax.specs.Syntax.{Shift, Named, Expr, Variable, Paren, Call, Binary, Further, with_further, signed}
+use Rattle.mp_syntax.specs.Syntax.{Shift, Named, Expr, Variable, Paren, Call, Binary, Diff, Further, with_further, signed}
 use Rattle.mp_statements.specs.declared.kind.NameKind.{NameKind}
-use Rattle.mp_statements.specs.Statements.{Item, Statement}
-use Rattle.mp_statements.specs.Parts.{items_in, equations_of}
+use Rattle.mp_statements.specs.Statements.{Equation, Item, Local, Equates, Statement}
+use Rattle.mp_statements.specs.Parts.{items_in, items_of}
+use Rattle.mp_statements.specs.Sides.{right_side, sides}
 use Rattle.mp_format.specs.Format.{Format, Of, sees, both, choose, opt, many, via, Every, Made}
 use Rattle.mp_format.specs.Notation.{of, ◌⊗◌}
 use Rattle.mp_format.proofs.Whole.{whole-made}
 use Rattle.mp_format.proofs.MadeLaws.{made}
 use Rattle.mp_expressions.specs.Productions.{Whole, expr, sign_format}
-use Rattle.mp_expressions.specs.Expressions.{shift, literal, flat_atom, pair, fenced, shift_part, closed, atom, raised, power, factor, times, product, plus, sum}
+use Rattle.mp_expressions.specs.Expressions.{shift, literal, flat_atom, pair, fenced, shift_part, closed, inside, atom, raised, power, factor, times, product, plus, sum}
 use Rattle.mp_expressions.proofs.Atoms.{flat_writing, sum_writing}
-use Rattle.mp_grammar.specs.Productions.{declared, declares, assigns, item, model, statement, statements}
+use Rattle.mp_grammar.specs.Productions.{decl, declared, declares, assigns, local, equation, item, model, notes, statement, statements}
 use Rattle.mp_grammar.specs.Levels.{expression, flat, deeper}
 use Rattle.mp_grammar.specs.Grammar.{ReadsFile}
-use Rattle.mp_declared.specs.Points.{Point, Reader, Equation, Constant, reads, item_reads}
-use Rattle.mp_declared.specs.Shifts.{reach_of, is_far, first_far, far_shift}
-use Rattle.mp_declared.specs.Sides.{right_side}
+use Rattle.mp_values.specs.Names.{along, shift_of}
+use Rattle.mp_values.specs.Shifts.{Reading, readings, item_readings}
 
 -- the token is no whole number, or one of at most this
 abbrev pub IsWithin : ℕ → Tok → Type 0
 IsWithin limit u = sees (Of t.Whole) u ≡ true → number_of u.bytes ≤ limit
 
--- a name that is read here is shifted by at most this
-abbrev IsNear : ℕ → Point → Type 0
-IsNear limit x = (reach_of x).1 ≤ limit
+-- a name is shifted by at most this, in at most so many `diff`
+pub record IsNear (limit depth : ℕ) (r : Reading) : Type 0 where
+  pub periods : unsigned_abs (shift_of r.shift) ≤ limit
+  pub depth_is : r.depth ≤ depth
 
--- each name that the expression reads is shifted by at most this
-abbrev AreNear : ℕ → Expr → Type 0
-AreNear limit e = (r : Reader) → AllByRecursion (IsNear limit) (reads r e)
+-- so is each name that the expression reads, where it stands in d `diff` and so many "(" may be open in it
+abbrev AreNear : ℕ → ℕ → Expr → Type 0
+AreNear limit room e = (d : ℕ) → AllByRecursion (IsNear limit (d + room)) (readings d e)
 
 each-append : {X : Type 0} (P : X → Type 0) (xs ys : List X) → AllByRecursion P xs → AllByRecursion P ys → AllByRecursion P (xs ++ ys)
 each-append P [] ys h k = k
@@ -96,31 +97,13 @@ module _ (limit : ℕ) where
 
   -- ---- expressions
 
-  abbrev Near : Expr → Type 0
-  Near e = AreNear limit e
-
-  abbrev FurtherNear : Further → Type 0
-  FurtherNear x = Near x.operand
+  deeper_near : (m n : ℕ) → m ≤ n → (rs : List Reading) → AllByRecursion (IsNear limit m) rs → AllByRecursion (IsNear limit n) rs
+  deeper_near m n low [] h = tt
+  deeper_near m n low (r ∷ rs) h =
+      (record { periods = h.0.periods; depth_is = le_trans h.0.depth_is low }, deeper_near m n low rs h.1)
 
   abbrev ShiftNear : Shift → Type 0
   ShiftNear s = number_of s.digits ≤ limit
-
-  binary_near : (op : Operator) (a : Expr) (at : ℕ) (b : Expr) → Near a → Near b → Near (Binary op a at b)
-  unfolding reads
-  binary_near op a at b x y r = each-append (IsNear limit) (reads r a) (reads r b) (x r) (y r)
-
-  call_near : (g : Function) (a b : Expr) → Near a → Near b → Near (Call g a b)
-  unfolding reads
-  call_near g a b x y r = each-append (IsNear limit) (reads r a) (reads r b) (x r) (y r)
-
-  signed_near : (s : Option Sign) (e : Expr) → Near e → Near (signed s e)
-  unfolding reads
-  signed_near None e is r = is r
-  signed_near (Some s) e is r = is r
-
-  further_near : (e : Expr) (more : List Further) → Near e → Every FurtherNear more → Near (with_further e more)
-  further_near e [] is each = is
-  further_near e (x ∷ more) is each = further_near (Binary x.op e x.at x.operand) more (binary_near x.op e x.at x.operand is each.0) each.1
 
   whole_keeps : Keeps (of t.Whole) (λ u. number_of u.bytes ≤ limit)
   unfolding Made Keeps
@@ -131,94 +114,154 @@ module _ (limit : ℕ) where
   shift_keeps =
       opt_keeps _ ShiftNear (front_keeps _ _ ShiftNear (back_keeps _ _ ShiftNear (via_keeps _ _ (λ p. Unit {0} × (number_of p.1.bytes ≤ limit)) ShiftNear (λ p h. h.1) (both_keeps _ _ (λ s. Unit {0}) (λ u. number_of u.bytes ≤ limit) (free _) whole_keeps))))
 
-  literal_keeps : Keeps literal Near
-  unfolding reads
-  literal_keeps = via_keeps _ _ (λ u. Unit {0}) Near (λ u h r. tt) (free _)
+  periods_near : (s : Option Shift) → OrNone ShiftNear s → unsigned_abs (shift_of s) ≤ limit
+  periods_near None h = omega arith
+  periods_near (Some s) h = by s.sign (number_of s.digits) h
+    where
+      by : (g : Sign) (n : ℕ) → n ≤ limit → unsigned_abs (along g n) ≤ limit
+      by sign.Plus n low = low
+      by sign.Minus zero low = low
+      by sign.Minus (suc n) low = low
 
-  name_near : (n : Named) (s : Option Shift) → OrNone ShiftNear s → Near (Variable n s)
-  unfolding reads
-  name_near n None h r = (omega arith, tt)
-  name_near n (Some s) h r = (h, tt)
+  -- in an expression where so many "(" may be open
+  module _ (room : ℕ) where
+    abbrev Near : Expr → Type 0
+    Near e = AreNear limit room e
 
-  flat_keeps : Keeps flat_atom Near
+    abbrev FurtherNear : Further → Type 0
+    FurtherNear x = Near x.operand
+
+    binary_near : (op : Operator) (a : Expr) (at : ℕ) (b : Expr) → Near a → Near b → Near (Binary op a at b)
+    unfolding readings
+    binary_near op a at b x y d = each-append _ (readings d a) (readings d b) (x d) (y d)
+
+    call_near : (g : Function) (a b : Expr) → Near a → Near b → Near (Call g a b)
+    unfolding readings
+    call_near g a b x y d = each-append _ (readings d a) (readings d b) (x d) (y d)
+
+    signed_near : (s : Option Sign) (e : Expr) → Near e → Near (signed s e)
+    unfolding readings
+    signed_near None e is d = is d
+    signed_near (Some s) e is d = is d
+
+    further_near : (e : Expr) (more : List Further) → Near e → Every FurtherNear more → Near (with_further e more)
+    further_near e [] is each = is
+    further_near e (x ∷ more) is each =
+        further_near (Binary x.op e x.at x.operand) more (binary_near x.op e x.at x.operand is each.0) each.1
+
+    literal_keeps : Keeps literal Near
+    unfolding readings
+    literal_keeps = via_keeps _ _ (λ u. Unit {0}) Near (λ u h d. tt) (free _)
+
+    name_near : (n : Named) (s : Option Shift) → OrNone ShiftNear s → Near (Variable n s)
+    unfolding readings
+    name_near n s h d = (record { periods = periods_near s h; depth_is = omega arith }, tt)
+
+    abbrev ExponentNear : Tok × (Option Sign × Expr) → Type 0
+    ExponentNear p = Near p.1.1
+
+    raised_near : (x : Expr) (o : Option (Tok × (Option Sign × Expr))) → Near x → Near (raised x o)
+    unfolding readings
+    raised_near x None h d = h d
+    raised_near x (Some p) h d = h d
+
+    module _ (a : Format Expr) (inner : Keeps a Near) where
+      power_keeps : Keeps (power a) Near
+      power_keeps =
+          via_keeps _ _ (λ p. Near p.0 × Unit {0}) Near (λ p h. raised_near p.0 p.1 h.0) (both_keeps _ _ Near (λ o. Unit {0}) inner (free _))
+
+      factor_keeps : Keeps (factor a) Near
+      unfolding factor
+      factor_keeps = via_keeps _ _ (λ p. Unit {0} × Near p.1) Near (λ p h. signed_near p.0 p.1 h.1) (both_keeps _ _ (λ s. Unit {0}) Near (free _) power_keeps)
+
+      times_keeps : Keeps (times a) FurtherNear
+      unfolding times
+      times_keeps = via_keeps _ _ (λ p. Unit {0} × Near p.1) FurtherNear (λ p h. h.1) (both_keeps _ _ (λ o. Unit {0}) Near (free _) factor_keeps)
+
+      product_keeps : Keeps (product a) Near
+      unfolding product
+      product_keeps = via_keeps _ _ (λ p. Near p.0 × Every FurtherNear p.1) Near (λ p h. further_near p.0 p.1 h.0 h.1) (both_keeps _ _ Near (Every FurtherNear) factor_keeps (many_keeps _ FurtherNear times_keeps))
+
+      plus_keeps : Keeps (plus a) FurtherNear
+      unfolding plus
+      plus_keeps = via_keeps _ _ (λ p. Unit {0} × Near p.1) FurtherNear (λ p h. h.1) (both_keeps _ _ (λ o. Unit {0}) Near (free _) product_keeps)
+
+      sum_keeps : Keeps (sum a) Near
+      unfolding sum
+      sum_keeps = via_keeps _ _ (λ p. Near p.0 × Every FurtherNear p.1) Near (λ p h. further_near p.0 p.1 h.0 h.1) (both_keeps _ _ Near (Every FurtherNear) product_keeps (many_keeps _ FurtherNear plus_keeps))
+
+  flat_keeps : Keeps flat_atom (Near 0)
   unfolding flat_atom
-  flat_keeps = choose_keeps _ _ Near literal_keeps (via_keeps _ _ (λ u. Unit {0}) Near (λ u h. name_near _ None tt) (free _))
+  flat_keeps = choose_keeps _ _ (Near 0) (literal_keeps 0) (via_keeps _ _ (λ u. Unit {0}) (Near 0) (λ u h. name_near 0 _ None tt) (free _))
 
-  abbrev TwoNear : Expr × Expr → Type 0
-  TwoNear p = Near p.0 × Near p.1
+  -- one "(" further out
+  module _ (room : ℕ) (e : Whole) (inner : Keeps (expr e) (Near room)) where
+    abbrev Outer : Expr → Type 0
+    Outer x = Near (suc room) x
 
-  module _ (e : Whole) (inner : Keeps (expr e) Near) where
+    abbrev TwoNear : Expr × Expr → Type 0
+    TwoNear p = Near room p.0 × Near room p.1
+
+    outer : (x : Expr) → Near room x → Outer x
+    outer x h d = deeper_near (d + room) (d + suc room) (omega arith) (readings d x) (h d)
+
     pair_keeps : Keeps (pair e) TwoNear
     unfolding pair
-    pair_keeps = both_keeps _ _ Near Near (front_keeps _ _ Near (back_keeps _ _ Near inner)) (back_keeps _ _ Near inner)
+    pair_keeps =
+        both_keeps _ _ (Near room) (Near room) (front_keeps _ _ (Near room) (back_keeps _ _ (Near room) inner)) (back_keeps _ _ (Near room) inner)
 
-    paren_near : (x : Expr) → Near x → Near (Paren x)
-    unfolding reads
-    paren_near x h r = h r
+    paren_near : (x : Expr) → Near room x → Outer (Paren x)
+    unfolding readings
+    paren_near x h d = outer x h d
 
-    atom_keeps : Keeps (atom e) Near
+    diff_near : (at : ℕ) (x : Expr) → Near room x → Outer (Diff at x)
+    unfolding readings
+    diff_near at x h d = deeper_near (suc d + room) (d + suc room) (omega arith) (readings (suc d) x) (h (suc d))
+
+    called_near : (g : Function) (a b : Expr) → Near room a → Near room b → Outer (Call g a b)
+    called_near g a b x y = call_near (suc room) g a b (outer a x) (outer b y)
+
+    inside_keeps : Keeps (inside e) (Near room)
+    unfolding inside closed
+    inside_keeps = front_keeps _ _ (Near room) (back_keeps _ _ (Near room) inner)
+
+    atom_keeps : Keeps (atom e) Outer
     unfolding atom closed
     atom_keeps =
-        choose_keeps _ _ Near literal_keeps (choose_keeps _ _ Near (via_keeps _ _ (λ p. Unit {0} × OrNone ShiftNear p.1) Near (λ p h. name_near _ p.1 h.1) (both_keeps _ _ (λ u. Unit {0}) (OrNone ShiftNear) (free _) shift_keeps)) (choose_keeps _ _ Near (via_keeps _ _ Near Near (λ x h. paren_near x h) (front_keeps _ _ Near (back_keeps _ _ Near inner))) (choose_keeps _ _ Near (via_keeps _ _ TwoNear Near (λ p h. call_near _ p.0 p.1 h.0 h.1) (front_keeps _ _ TwoNear pair_keeps)) (via_keeps _ _ TwoNear Near (λ p h. call_near _ p.0 p.1 h.0 h.1) (front_keeps _ _ TwoNear pair_keeps)))))
+        choose_keeps _ _ Outer (literal_keeps (suc room)) (choose_keeps _ _ Outer (via_keeps _ _ (λ p. Unit {0} × OrNone ShiftNear p.1) Outer (λ p h. name_near (suc room) _ p.1 h.1) (both_keeps _ _ (λ u. Unit {0}) (OrNone ShiftNear) (free _) shift_keeps)) (choose_keeps _ _ Outer (via_keeps _ _ (Near room) Outer (λ x h. paren_near x h) (front_keeps _ _ (Near room) (back_keeps _ _ (Near room) inner))) (choose_keeps _ _ Outer (via_keeps _ _ TwoNear Outer (λ p h. called_near _ p.0 p.1 h.0 h.1) (front_keeps _ _ TwoNear pair_keeps)) (choose_keeps _ _ Outer (via_keeps _ _ TwoNear Outer (λ p h. called_near _ p.0 p.1 h.0 h.1) (front_keeps _ _ TwoNear pair_keeps)) (via_keeps _ _ (λ p. Unit {0} × Near room p.1) Outer (λ p h. diff_near p.0.at p.1 h.1) (both_keeps _ _ (λ u. Unit {0}) (Near room) (free _) inside_keeps))))))
 
-  abbrev ExponentNear : Tok × (Option Sign × Expr) → Type 0
-  ExponentNear p = Near p.1.1
-
-  raised_near : (x : Expr) (o : Option (Tok × (Option Sign × Expr))) → Near x → OrNone ExponentNear o → Near (raised x o)
-  unfolding reads
-  raised_near x None h k r = h r
-  raised_near x (Some p) h k r = each-append (IsNear limit) (reads r x) (reads Constant p.1.1) (h r) (k Constant)
-
-  module _ (a : Format Expr) (inner : Keeps a Near) where
-    exponent_keeps : Keeps (of t.Caret ⊗ (opt sign_format ⊗ a)) ExponentNear
-    unfolding Keeps Made
-    exponent_keeps p m = inner p.1.1 m.1.1
-
-    power_keeps : Keeps (power a) Near
-    power_keeps =
-        via_keeps _ _ (λ p. Near p.0 × OrNone ExponentNear p.1) Near (λ p h. raised_near p.0 p.1 h.0 h.1) (both_keeps _ _ Near (OrNone ExponentNear) inner (opt_keeps _ ExponentNear exponent_keeps))
-
-    factor_keeps : Keeps (factor a) Near
-    unfolding factor
-    factor_keeps = via_keeps _ _ (λ p. Unit {0} × Near p.1) Near (λ p h. signed_near p.0 p.1 h.1) (both_keeps _ _ (λ s. Unit {0}) Near (free _) power_keeps)
-
-    times_keeps : Keeps (times a) FurtherNear
-    unfolding times
-    times_keeps = via_keeps _ _ (λ p. Unit {0} × Near p.1) FurtherNear (λ p h. h.1) (both_keeps _ _ (λ o. Unit {0}) Near (free _) factor_keeps)
-
-    product_keeps : Keeps (product a) Near
-    unfolding product
-    product_keeps = via_keeps _ _ (λ p. Near p.0 × Every FurtherNear p.1) Near (λ p h. further_near p.0 p.1 h.0 h.1) (both_keeps _ _ Near (Every FurtherNear) factor_keeps (many_keeps _ FurtherNear times_keeps))
-
-    plus_keeps : Keeps (plus a) FurtherNear
-    unfolding plus
-    plus_keeps = via_keeps _ _ (λ p. Unit {0} × Near p.1) FurtherNear (λ p h. h.1) (both_keeps _ _ (λ o. Unit {0}) Near (free _) product_keeps)
-
-    sum_keeps : Keeps (sum a) Near
-    unfolding sum
-    sum_keeps = via_keeps _ _ (λ p. Near p.0 × Every FurtherNear p.1) Near (λ p h. further_near p.0 p.1 h.0 h.1) (both_keeps _ _ Near (Every FurtherNear) product_keeps (many_keeps _ FurtherNear plus_keeps))
-
-  expr_keeps : (room : ℕ) → Keeps (expr (expression room)) Near
+  expr_keeps : (room : ℕ) → Keeps (expr (expression room)) (Near room)
   unfolding Made Keeps expression flat deeper
   expr_keeps zero x m =
-      sum_keeps flat_atom flat_keeps x (subst (λ (M : (Tok → Type 0) → Expr → Type 0). M (IsWithin limit) x) (whole-made _ _ _ (sum flat_atom) flat_writing _ _ _ _) m)
+      sum_keeps 0 flat_atom flat_keeps x (subst (λ (M : (Tok → Type 0) → Expr → Type 0). M (IsWithin limit) x) (whole-made _ _ _ (sum flat_atom) flat_writing _ _ _ _) m)
   expr_keeps (suc room) x m =
-      sum_keeps (atom (expression room)) (atom_keeps (expression room) (expr_keeps room)) x (subst (λ (M : (Tok → Type 0) → Expr → Type 0). M (IsWithin limit) x) (whole-made _ _ _ (sum (atom (expression room))) (sum_writing (expression room)) _ _ _ _) m)
+      sum_keeps (suc room) (atom (expression room)) (atom_keeps room (expression room) (expr_keeps room)) x (subst (λ (M : (Tok → Type 0) → Expr → Type 0). M (IsWithin limit) x) (whole-made _ _ _ (sum (atom (expression room))) (sum_writing (expression room)) _ _ _ _) m)
 
   -- ---- statements
 
   abbrev ItemNear : Item → Type 0
-  ItemNear x = AllByRecursion (IsNear limit) (item_reads x)
+  ItemNear x = AllByRecursion (IsNear limit 500) (item_readings x)
 
-  right_near : (r : Option Expr) → OrNone Near r → Near (right_side r)
-  unfolding reads
-  right_near None h r = tt
-  right_near (Some e) h r = h r
+  right_near : (r : Option Expr) → OrNone (Near 500) r → Near 500 (right_side r)
+  unfolding readings
+  right_near None h d = tt
+  right_near (Some e) h d = h d
+
+  local_keeps : Keeps (local (expression 500)) ItemNear
+  unfolding local
+  local_keeps = via_keeps _ _ (λ p. Unit {0} × Near 500 p.1) ItemNear (λ p h. h.1 0) (both_keeps _ _ (λ n. Unit {0}) (Near 500) (free _) (back_keeps _ _ (Near 500) (expr_keeps 500)))
+
+  abbrev EquationNear : Equation → Type 0
+  EquationNear x = AllByRecursion (IsNear limit 500) (flat_map (readings 0) (sides x))
+
+  equation_keeps : Keeps (equation (expression 500)) EquationNear
+  unfolding equation
+  equation_keeps =
+      via_keeps _ _ (λ p. Unit {0} × (Near 500 p.1.0 × OrNone (Near 500) p.1.1)) EquationNear (λ p h. each-flat (IsNear limit 500) (readings 0) (p.1.0 ∷ (right_side p.1.1 ∷ [])) (h.1.0 0, (right_near p.1.1 h.1.1 0, tt))) (both_keeps _ _ (λ u. Unit {0}) (λ q. Near 500 q.0 × OrNone (Near 500) q.1) (free _) (both_keeps _ _ (Near 500) (OrNone (Near 500)) (expr_keeps 500) (back_keeps _ _ (OrNone (Near 500)) (opt_keeps _ (Near 500) (front_keeps _ _ (Near 500) (expr_keeps 500))))))
 
   item_keeps : Keeps (item (expression 500)) ItemNear
   unfolding item
-  item_keeps =
-      via_keeps _ _ (λ p. Near p.0 × OrNone Near p.1) ItemNear (λ p h. each-flat (IsNear limit) (reads Equation) (p.0 ∷ (right_side p.1 ∷ [])) (h.0 Equation, (right_near p.1 h.1 Equation, tt))) (both_keeps _ _ Near (OrNone Near) (expr_keeps 500) (back_keeps _ _ (OrNone Near) (opt_keeps _ Near (front_keeps _ _ Near (expr_keeps 500)))))
+  item_keeps = choose_keeps _ _ ItemNear local_keeps (via_keeps _ _ EquationNear ItemNear (λ x h. h) equation_keeps)
 
   abbrev StatementNear : Statement → Type 0
   StatementNear s = Every ItemNear (items_in s)
@@ -226,25 +269,27 @@ module _ (limit : ℕ) where
   declared_keeps : (k : NameKind) → Keeps (declared k) StatementNear
   declared_keeps k = via_keeps _ _ (λ ns. Unit {0}) StatementNear (λ ns h. tt) (free _)
 
+  notes_keeps : Keeps notes StatementNear
+  unfolding notes
+  notes_keeps = via_keeps _ _ (λ p. Unit {0}) StatementNear (λ p h. tt) (free _)
+
+  model_keeps : Keeps (model (expression 500)) StatementNear
+  unfolding model
+  model_keeps =
+      via_keeps _ _ (λ p. Unit {0} × (Unit {0} × Every ItemNear p.1.1)) StatementNear (λ p h. h.1.1) (both_keeps _ _ (λ u. Unit {0}) (λ q. Unit {0} × Every ItemNear q.1) (free _) (both_keeps _ _ (λ u. Unit {0}) (Every ItemNear) (free _) (back_keeps _ _ (Every ItemNear) (back_keeps _ _ (Every ItemNear) (many_keeps _ ItemNear item_keeps)))))
+
   statement_keeps : Keeps (statement (expression 500)) StatementNear
-  unfolding statement declares assigns model
+  unfolding statement declares assigns
   statement_keeps =
-      choose_keeps _ _ StatementNear (choose_keeps _ _ StatementNear (front_keeps _ _ StatementNear (declared_keeps _)) (choose_keeps _ _ StatementNear (front_keeps _ _ StatementNear (declared_keeps _)) (front_keeps _ _ StatementNear (declared_keeps _)))) (choose_keeps _ _ StatementNear (via_keeps _ _ (λ p. Unit {0}) StatementNear (λ p h. tt) (free _)) (via_keeps _ _ (λ p. Unit {0} × Every ItemNear p.1) StatementNear (λ p h. h.1) (both_keeps _ _ (λ u. Unit {0}) (Every ItemNear) (free _) (back_keeps _ _ (Every ItemNear) (back_keeps _ _ (Every ItemNear) (many_keeps _ ItemNear item_keeps))))))
+      choose_keeps _ _ StatementNear (choose_keeps _ _ StatementNear (front_keeps _ _ StatementNear (declared_keeps _)) (choose_keeps _ _ StatementNear (front_keeps _ _ StatementNear (declared_keeps _)) (front_keeps _ _ StatementNear (declared_keeps _)))) (choose_keeps _ _ StatementNear (via_keeps _ _ (λ p. Unit {0}) StatementNear (λ p h. tt) (free _)) (choose_keeps _ _ StatementNear model_keeps notes_keeps))
 
-  all_near : (file : List Statement) → Every StatementNear file → AllByRecursion (IsNear limit) (flat_map item_reads (equations_of file))
+  all_near : (file : List Statement) → Every StatementNear file → AllByRecursion (IsNear limit 500) (flat_map item_readings (items_of file))
   all_near [] h = tt
-  all_near (s ∷ file) h = subst (AllByRecursion (IsNear limit)) (sym (flat_map-append item_reads (items_in s) (equations_of file))) (each-append (IsNear limit) _ _ (each-flat (IsNear limit) item_reads (items_in s) h.0) (all_near file h.1))
+  all_near (s ∷ file) h =
+      subst (AllByRecursion (IsNear limit 500)) (sym (flat_map-append item_readings (items_in s) (items_of file))) (each-append (IsNear limit 500) _ _ (each-flat (IsNear limit 500) item_readings (items_in s) h.0) (all_near file h.1))
 
-  first_near : (ps : List Point) → AllByRecursion (IsNear limit) ps → ForSome (first_far ps) (λ x. x.1 ≤ limit)
-  first_near [] near = λ x e. absurd cc
-  first_near (q ∷ ps) near = by (is_far (reach_of q)) (first_near ps near.1)
-    where
-      by : (far : Bool) → ForSome (first_far ps) (λ x. x.1 ≤ limit) → ForSome (cond far (Some (reach_of q)) (first_far ps)) (λ x. x.1 ≤ limit)
-      by true more x e = let same : reach_of q ≡ x = cc in subst (λ (y : ℕ × ℕ). y.1 ≤ limit) same near.0
-      by false more x e = more x e
-
-  -- so is the first name that is shifted too far, where each whole number of the tokens is at most this
-  pub far_within : (ts : List Tok) (file : List Statement) → Every (IsWithin limit) ts → ReadsFile ts file → ForSome (far_shift file) (λ x. x.1 ≤ limit)
+  -- each name of the model's items, where each whole number of the tokens is at most this
+  pub read_near : (ts : List Tok) (file : List Statement) → Every (IsWithin limit) ts → ReadsFile ts file → AllByRecursion (IsNear limit 500) (flat_map item_readings (items_of file))
   unfolding statements Made Keeps
-  far_within ts file within r =
-      first_near (flat_map item_reads (equations_of file)) (all_near file (many_keeps (statement (expression 500)) StatementNear statement_keeps file (made (statements (expression 500)) (IsWithin limit) ts [] file r within).0))
+  read_near ts file within r =
+      all_near file (many_keeps (statement (expression 500)) StatementNear statement_keeps file (made (statements (expression 500)) (IsWithin limit) ts [] file r within).0)

@@ -4,27 +4,27 @@ use Rattle.std.specs.Result.{MatchResult, IsErrAnd}
 use Rattle.mp_base.specs.declared.refusal.Refusal.{Refusal}
 use Rattle.mp_base.specs.declared.refusal.Refusal.TheVariants as o
 use Rattle.mp_base.specs.declared.kinds.TextKind.TheVariants as t
-use Rattle.mp_base.specs.declared.kinds.DataKind.TheVariants as d
 use Rattle.mp_tokens.specs.Tokens as lex
 use Rattle.mp_tokens.specs.Tokens.{Tok, BadByte, LongName, OpenComment, OpenText, tokens}
 use Rattle.mp_tokens.specs.Literals.{far_literal}
 use Rattle.mp_statements.specs.Statements.{Statement}
-use Rattle.mp_statements.specs.Parts.{equations_of}
+use Rattle.mp_statements.specs.Parts.{items_of}
 use Rattle.mp_grammar.specs.Grammar.{file_read}
 use Rattle.mp_grammar.proofs.Wrong.{wrong_number}
 use Rattle.mp_declared.specs.Declared.{Fault, declared_fault}
-use Rattle.mp_declared.specs.Shifts.{far_shift}
-use Rattle.mp_declared.specs.Heights.{greatest_height}
+use Rattle.mp_declared.specs.Declared as declared
+use Rattle.mp_solutions.specs.Transformed.{transformed}
+use Rattle.mp_local.specs.Local.{local_given}
+use Rattle.mp_shift.specs.Faults.{name_fault}
 use Rattle.mp_semantics.specs.Model.{Model}
 use Rattle.mp_values.specs.Table.{Table}
 use Rattle.mp_values.specs.Limits.{Stuck, Unvalued, Refused, Folded}
 use Rattle.mp_values.specs.Values.{values_given}
 use Rattle.mp_values.specs.Exponents.{all_exponents}
-use Rattle.mp_values.specs.ModelOf.{model_given}
 use Rattle.mp_canonical.specs.Files.{canonical_text}
 use Rattle.mp_decl.specs.Given.{stuck_told, unless_fault, unless_far, unless_stuck, values_told, declared_given}
-use Rattle.mp_transform.specs.Steps.{Step, and_then, whole, Refuses}
-use Rattle.mp_transform.specs.Text.{token_step, wrong_token, file_step, shift_step, deep_step, model_step, limited, tested, tokens_give, text_gives}
+use Rattle.mp_transform.specs.Steps.{Step, and_then, Refuses}
+use Rattle.mp_transform.specs.Text.{token_step, wrong_token, file_step, model_step, limited, name_step, named_step, sourced, tested, tokens_give, text_gives}
 use Rattle.mp_transform.specs.Wrong.{ShowsWrongToken, IfWrongToken}
 
 -- it refuses no tokens and no grammar
@@ -56,25 +56,21 @@ and_later : {X Y : Type 0} (r : Step X) (next : X → Step Y) → Later r → ((
 and_later (Ok x) next h k = k x
 and_later (Err outcome) next h k = h
 
-shift_later : (x : Option (ℕ × ℕ)) → Later (shift_step x)
-shift_later None = tt
-shift_later (Some x) = tt
-
-deep_later : (tall : ℕ) → Later (deep_step tall)
-deep_later tall = by (nat_le tall 500)
-  where
-    by : (low : Bool) → Later (let r : Step (Unit {0}) = cond low (Ok tt) (Err (o.Data (record { kind = d.TooDeep; at = 0; first = whole tall; second = whole 500 }))) in r)
-    by true = tt
-    by false = tt
-
 model_later : (end : ℕ) (r : Folded Model) → Later (model_step end r)
 model_later end (Ok M) = tt
 model_later end (Err s) = stuck_later end s
 
+name_later : (x : Option declared.Fault) → Later (name_step x)
+name_later None = tt
+name_later (Some x) = tt
+
+named_later : (file : List Statement) (M : Model) → Later (named_step file M)
+named_later file M = and_later (name_step (name_fault file M)) (λ _. Ok M) (name_later (name_fault file M)) (λ _. tt)
+
 declared_later : (end : ℕ) (ts : List Tok) (file : List Statement) → Later (declared_given end ts file)
 declared_later end ts file =
-    let powers : Table → Step Table = λ t. unless_stuck end (all_exponents t (equations_of file)) (λ _. Ok t) in
-    fault_later (declared_fault end file) (unless_far (far_literal ts) (values_told end file)) (far_later (far_literal ts) (values_told end file) (after_stuck end (values_given file) powers (λ t. by t (all_exponents t (equations_of file)))))
+    let powers : Table → Step Table = λ t. unless_stuck end (all_exponents t (items_of file)) (λ _. Ok t) in
+    fault_later (declared_fault end file) (unless_far (far_literal ts) (values_told end file)) (far_later (far_literal ts) (values_told end file) (after_stuck end (values_given file) powers (λ t. by t (all_exponents t (items_of file)))))
   where
     by : (t : Table) (u : Folded (List ℤ)) → Later (let r : Step Table = unless_stuck end u (λ _. Ok t) in r)
     by t (Ok x) = tt
@@ -82,10 +78,7 @@ declared_later end ts file =
 
 tested_later : (end : ℕ) (ts : List Tok) (file : List Statement) → Later (tested end ts file)
 tested_later end ts file =
-    let model : Step Model = model_step end (model_given file) in
-    let deep : Step Model = and_then (deep_step (greatest_height file)) (λ _. model) in
-    and_later (declared_given end ts file) (λ _. limited end file) (declared_later end ts file)
-    (λ _. and_later (shift_step (far_shift file)) (λ _. deep) (shift_later (far_shift file)) (λ _. and_later (deep_step (greatest_height file)) (λ _. model) (deep_later (greatest_height file)) (λ _. model_later end (model_given file))))
+    and_later (sourced end ts file) (named_step file) (and_later (declared_given end ts file) (λ _. limited end file) (declared_later end ts file) (λ _. model_later end (local_given file))) (named_later file)
 
 -- this outcome is a refusal of a token
 abbrev IsToken : Refusal → Type 0
@@ -128,16 +121,16 @@ refused (OpenText at) ts e = cc
 shows_wrong : (text : List ℕ) (outcome : Refusal) → text_gives text ≡ Err outcome → IsToken outcome → ShowsWrongToken text outcome
 shows_wrong text outcome e is = by_tokens (tokens text) refl e
   where
-    by_file : (ts : List Tok) → tokens text ≡ Ok ts → (r : Result (List Statement) (List Tok)) → file_read ts ≡ r → and_then (and_then (file_step (length text) r) (tested (length text) ts)) (λ M. Ok (canonical_text M)) ≡ Err outcome → ShowsWrongToken text outcome
-    by_file ts lexed (Ok file) read e = absurd (later_never (and_then (tested (length text) ts file) (λ M. Ok (canonical_text M))) outcome (and_later (tested (length text) ts file) (λ M. Ok (canonical_text M)) (tested_later (length text) ts file) (λ M. tt)) e is)
+    by_file : (ts : List Tok) → tokens text ≡ Ok ts → (r : Result (List Statement) (List Tok)) → file_read ts ≡ r → and_then (and_then (file_step (length text) r) (tested (length text) ts)) (λ M. Ok (canonical_text (transformed M))) ≡ Err outcome → ShowsWrongToken text outcome
+    by_file ts lexed (Ok file) read e = absurd (later_never (and_then (tested (length text) ts file) (λ M. Ok (canonical_text (transformed M)))) outcome (and_later (tested (length text) ts file) (λ M. Ok (canonical_text (transformed M))) (tested_later (length text) ts file) (λ M. tt)) e is)
     by_file ts lexed (Err left) read e = stops_at text ts left outcome lexed read (sym (err_is _ outcome e))
 
     -- a refusal of the tokens goes through
-    stays : (fault : lex.Fault) (r : Step (List Tok)) → token_step (Err fault) ≡ r → and_then (and_then r (tokens_give (length text))) (λ M. Ok (canonical_text M)) ≡ Err outcome → token_step (Err fault) ≡ Err outcome
+    stays : (fault : lex.Fault) (r : Step (List Tok)) → token_step (Err fault) ≡ r → and_then (and_then r (tokens_give (length text))) (λ M. Ok (canonical_text (transformed M))) ≡ Err outcome → token_step (Err fault) ≡ Err outcome
     stays fault (Ok ts) same e = absurd (refused fault ts same)
     stays fault (Err y) same e = same ∙ ap Err (err_is y outcome e)
 
-    by_tokens : (r : Result (List Tok) lex.Fault) → tokens text ≡ r → and_then (and_then (token_step r) (tokens_give (length text))) (λ M. Ok (canonical_text M)) ≡ Err outcome → ShowsWrongToken text outcome
+    by_tokens : (r : Result (List Tok) lex.Fault) → tokens text ≡ r → and_then (and_then (token_step r) (tokens_give (length text))) (λ M. Ok (canonical_text (transformed M))) ≡ Err outcome → ShowsWrongToken text outcome
     by_tokens (Ok ts) lexed e = by_file ts lexed (file_read ts) refl e
     by_tokens (Err fault) lexed e = absurd (lexed_never fault outcome (stays fault (token_step (Err fault)) refl e) is)
 

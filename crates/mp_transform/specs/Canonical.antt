@@ -1,14 +1,17 @@
 -- A canonical text, and the headline for it.
-use Rattle.std.specs.Prelude.{◌≡◌, ℕ, List, Some, Ok}
+use Rattle.std.specs.Prelude.{◌≡◌, ℕ, List, Some, Ok, Err}
 use Rattle.mp_tokens.specs.Tokens.{Tok, tokens}
 use Rattle.mp_statements.specs.Statements.{Statement}
 use Rattle.mp_grammar.specs.Grammar.{ReadsFile}
 use Rattle.mp_semantics.specs.Model.{Model}
+use Rattle.mp_solutions.specs.Transformed.{transformed}
 use Rattle.mp_values.specs.ModelOf.{model_of}
 use Rattle.mp_canonical.specs.Files.{canonical_text}
+use Rattle.mp_canonical.specs.Printable.{HasFreeNames}
 use Rattle.mp_model.specs.Headline.{KeepsSolutions}
+use Rattle.mp_transform.specs.Steps.{Step}
 
--- these bytes are the canonical text of the model that the file means which the grammar reads from the tokens of the text; and a path solves them exactly when it solves that file
+-- these bytes are the canonical text of the transformed model of what the file means which the grammar reads from the tokens of the text; and a path solves them exactly when it solves that file and has for each auxiliary the shifted value of its variable
 pub record IsCanonical (text written : List ℕ) : Type 0 where
   pub ts : List Tok
   pub file : List Statement
@@ -16,5 +19,10 @@ pub record IsCanonical (text written : List ℕ) : Type 0 where
   pub lexed : tokens text ≡ Ok ts
   pub reads : ReadsFile ts file
   pub means : model_of file ≡ Some model
-  pub printed : written ≡ canonical_text model
+  pub printed : written ≡ canonical_text (transformed model)
   pub keeps : KeepsSolutions file written
+
+-- the names of the auxiliaries of the model that there is are free
+abbrev pub HasNames : Step Model → Type 0
+HasNames (Ok M) = HasFreeNames M
+HasNames (Err refusal) = Unit {0}

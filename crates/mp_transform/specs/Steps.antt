@@ -2,7 +2,7 @@
 use Rattle.std.specs.Prelude.{◌≡◌, ℕ, pos, Result, Ok, Err}
 use Rattle.mp_base.specs.declared.refusal.Refusal.{Refusal}
 use Rattle.mp_base.specs.declared.refusal.Refusal.TheVariants as o
-use Rattle.mp_base.specs.declared.span.Ratio.{Ratio}
+use Rattle.mp_base.specs.declared.fraction.Ratio.{Ratio}
 
 abbrev pub Step : Type 0 → Type 0
 Step X = Result X Refusal

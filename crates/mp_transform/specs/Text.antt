@@ -1,20 +1,20 @@
--- What a text is transformed into: the canonical text of its model, or the first refusal in the order of the steps.
-use Rattle.std.specs.Prelude.{ℕ, List, [], ◌∷◌, length, take, nat_le, if◌then◌else◌, Option, Some, None, Result, Ok, Err}
+-- What a text is transformed into: the canonical text of its transformed model, or the first refusal in the order of the steps.
+use Rattle.std.specs.Prelude.{ℕ, List, [], ◌∷◌, length, take, Option, Some, None, Result, Ok, Err}
 use Rattle.mp_base.specs.declared.refusal.Refusal.{Refusal}
 use Rattle.mp_base.specs.declared.refusal.Refusal.TheVariants as o
 use Rattle.mp_base.specs.declared.kinds.TextKind.TheVariants as t
-use Rattle.mp_base.specs.declared.kinds.DataKind.TheVariants as d
 use Rattle.mp_tokens.specs.Tokens.{Tok, Fault, BadByte, LongName, OpenComment, OpenText, tokens}
 use Rattle.mp_statements.specs.Statements.{Statement}
 use Rattle.mp_grammar.specs.Grammar.{file_read}
-use Rattle.mp_declared.specs.Heights.{greatest_height}
-use Rattle.mp_declared.specs.Shifts.{far_shift}
+use Rattle.mp_declared.specs.Declared as declared
 use Rattle.mp_semantics.specs.Model.{Model}
+use Rattle.mp_solutions.specs.Transformed.{transformed}
 use Rattle.mp_values.specs.Limits.{Folded}
-use Rattle.mp_values.specs.ModelOf.{model_given}
 use Rattle.mp_canonical.specs.Files.{canonical_text}
 use Rattle.mp_decl.specs.Given.{declared_given, stuck_told}
-use Rattle.mp_transform.specs.Steps.{Step, and_then, whole}
+use Rattle.mp_local.specs.Local.{local_given}
+use Rattle.mp_shift.specs.Faults.{name_fault}
+use Rattle.mp_transform.specs.Steps.{Step, and_then}
 
 -- the tokens of a text, or its first fault
 abbrev pub token_step : Result (List Tok) Fault → Step (List Tok)
@@ -34,28 +34,30 @@ abbrev pub file_step : ℕ → Result (List Statement) (List Tok) → Step (List
 file_step end (Ok file) = Ok file
 file_step end (Err left) = Err (wrong_token end left)
 
--- no variable is shifted by more than 24 periods
-abbrev pub shift_step : Option (ℕ × ℕ) → Step (Unit {0})
-shift_step None = Ok tt
-shift_step (Some x) = Err (o.Data (record { kind = d.ShiftFar; at = x.0; first = whole x.1; second = whole 24 }))
-
--- no side of an equation is higher than 500
-abbrev pub deep_step : ℕ → Step (Unit {0})
-deep_step tall = if nat_le tall 500 then Ok tt else Err (o.Data (record { kind = d.TooDeep; at = 0; first = whole tall; second = whole 500 }))
-
 -- the model of a file
 abbrev pub model_step : ℕ → Folded Model → Step Model
 model_step end (Ok M) = Ok M
 model_step end (Err stuck) = Err (stuck_told end stuck)
 
--- the model of a file, with no shift and no side past the limits
+-- the model of a file, within the limits of models
 abbrev pub limited : ℕ → List Statement → Step Model
-limited end file =
-    and_then (shift_step (far_shift file)) (λ _. and_then (deep_step (greatest_height file)) (λ _. model_step end (model_given file)))
+limited end file = model_step end (local_given file)
 
--- the model of a file that declares it, with no number, no shift and no side past the limits
+-- each auxiliary of the model can have its name
+abbrev pub name_step : Option declared.Fault → Step (Unit {0})
+name_step None = Ok tt
+name_step (Some x) = Err (o.Declared x.kind x.name x.at)
+
+abbrev pub named_step : List Statement → Model → Step Model
+named_step file M = and_then (name_step (name_fault file M)) (λ _. Ok M)
+
+-- the model of a file that declares it, within all limits
+abbrev pub sourced : ℕ → List Tok → List Statement → Step Model
+sourced end ts file = and_then (declared_given end ts file) (λ _. limited end file)
+
+-- the same with names for its auxiliaries
 abbrev pub tested : ℕ → List Tok → List Statement → Step Model
-tested end ts file = and_then (declared_given end ts file) (λ _. limited end file)
+tested end ts file = and_then (sourced end ts file) (named_step file)
 
 -- the model of what the tokens read as
 abbrev pub tokens_give : ℕ → List Tok → Step Model
@@ -65,6 +67,6 @@ tokens_give end ts = and_then (file_step end (file_read ts)) (tested end ts)
 abbrev pub model_of_text : List ℕ → Step Model
 model_of_text text = and_then (token_step (tokens text)) (tokens_give (length text))
 
--- its canonical text
+-- the canonical text of its transformed model
 abbrev pub text_gives : List ℕ → Step (List ℕ)
-text_gives text = and_then (model_of_text text) (λ M. Ok (canonical_text M))
+text_gives text = and_then (model_of_text text) (λ M. Ok (canonical_text (transformed M)))

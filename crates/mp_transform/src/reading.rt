@@ -2,7 +2,6 @@
 ghost use Rattle.std.specs.Prelude.{◌≡◌, ◌<◌, ◌≤◌, ◌-◌, ◌^◌, [], drop, length, take, IfOk, MatchResult};
 ghost use Rattle.mp_tokens.specs.Tokens.{tokens};
 ghost use Rattle.mp_grammar.specs.Grammar.{ReadsFile, file_read};
-ghost use Rattle.mp_declared.specs.Heights.{greatest_height};
 ghost use Rattle.mp_file.specs.Shown.{file_of};
 ghost use Rattle.mp_lex.specs.Shown.{tok_of};
 ghost use Rattle.mp_transform.specs.Steps.{Says, TextShows};
@@ -47,10 +46,8 @@ pub(crate) fn parsed<'t>(alloc: Global, tokens: &Tokens<'t>, end: u32) -> Result
     requires { length tokens.now < 2 ^ 32 - 1 }
     ensures says { Says file_of (file_step end (file_read tokens.now)) result }
     ensures found { IfOk result (λ f. ReadsFile tokens.now (file_of f)) }
-    ensures low { IfOk result (λ f. greatest_height (file_of f) < 2 ^ 32) }
     ensures shows { MatchResult result (λ _. Unit {0}) TextShows }
 {
-    mp_decl::heights_law();
     match mp_gram::parse(alloc, tokens) {
         Ok(file) => Ok(file),
         Err(ParseFault::Token { index }) => Err(wrong_token(tokens, index, end)),

@@ -1,11 +1,11 @@
 -- Going on with what there is.
-use Rattle.std.proofs.Common.{◌≡◌, List, [], ◌∷◌, ◌++◌, append-nil, append_assoc, Ok, Err, refl, sym, ap, ◌∙◌}
+use Rattle.std.proofs.Common.{◌≡◌, List, [], ◌∷◌, ◌++◌, append-nil, append_assoc, Result, Ok, Err, refl, sym, ap, subst, ◌∙◌}
 use Rattle.mp_fold.specs.Reported.{fraction_of}
 use Rattle.mp_values.specs.Limits.{Folded, Stuck, Unvalued, Refused, ◌>>=◌}
 use Rattle.mp_values.specs.ModelOf.{each}
 use Rattle.mp_trees.specs.declared.fault.ModelFault.{ModelFault}
 use Rattle.mp_trees.specs.declared.fault.ModelFault.TheVariants as fault
-use Rattle.mp_trees.specs.Gives.{Fails}
+use Rattle.mp_trees.specs.Gives.{Fails, Gives}
 use Rattle.mp_trees.specs.Parts.{after_these}
 
 pub bind-Ok : {A : Type 0} (r : Folded A) → (r >>= λ x. Ok x) ≡ r
@@ -66,3 +66,6 @@ module _ {A B : Type 0} (f : A → Folded B) where
   pub some_fail : (e : ModelFault) (front : List B) (xs ys : List A) (whole : Folded (List B)) → after_these front (each f (xs ++ ys)) ≡ whole → Fails e (after_these front (each f xs)) → Fails e whole
   some_fail e front xs ys whole so_far fails =
       Fails_same e _ whole (sym (each-append front xs ys) ∙ so_far) (Fails-bind e (after_these front (each f xs)) (λ n. after_these n (each f ys)) fails)
+
+pub Gives_same : {X Y : Type 0} (view : X → Y) (result : Result X ModelFault) (r s : Folded Y) → r ≡ s → Gives view result r → Gives view result s
+Gives_same view result r s is gives = subst (Gives view result) is gives

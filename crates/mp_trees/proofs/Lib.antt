@@ -1,8 +1,14 @@
+pub mod Alike
 pub mod Bound
 pub mod Chains
 pub mod Digits
 pub mod Entries
+pub mod Far
+pub mod Found
 pub mod Parameters
+pub mod Rest
 pub mod Shortest
-pub mod Taken
+pub mod Tags
+pub mod Under
+pub mod Weights
 pub mod Whole

@@ -2,7 +2,7 @@
 use Rattle.std.proofs.Common.{◌≡◌, ℕ, List, [], ◌∷◌, map, cond, Bool, true, false, Option, Some, None, Ok, Err, refl, sym, ap, ◌∙◌}
 use Rattle.std.specs.Str.{bytes_eq}
 use Rattle.mp_rational.specs.Fraction.{Fraction}
-use Rattle.mp_statements.specs.Statements.{Statement, Declares, Assigns, Model}
+use Rattle.mp_statements.specs.Statements.{Statement, Declares, Assigns, Model, Notes}
 use Rattle.mp_semantics.specs.Model as m
 use Rattle.mp_values.specs.Table.{Table, unset, with_value}
 use Rattle.mp_values.specs.Names.{names_of}
@@ -28,7 +28,8 @@ names-with_value name v (p ∷ ps) = by (bytes_eq name p.0) (names-with_value na
 names-assigned : (file : List Statement) (t u : Table) → assigned_by limited t file ≡ Ok u → names u ≡ names t
 names-assigned [] t u e = let same : t ≡ u = cc in ap names (sym same)
 names-assigned (Declares kind ns ∷ more) t u e = names-assigned more t u e
-names-assigned (Model at items ∷ more) t u e = names-assigned more t u e
+names-assigned (Model at choices items ∷ more) t u e = names-assigned more t u e
+names-assigned (Notes command ns ∷ more) t u e = names-assigned more t u e
 names-assigned (Assigns name value ∷ more) t u e = by (value_by limited t value) e (λ x. names-assigned more (with_value name.name (Some x) t) u)
   where
     by : (r : Folded Fraction) → (r >>= λ x. assigned_by limited (with_value name.name (Some x) t) more) ≡ Ok u → ((x : Fraction) → assigned_by limited (with_value name.name (Some x) t) more ≡ Ok u → names u ≡ names (with_value name.name (Some x) t)) → names u ≡ names t

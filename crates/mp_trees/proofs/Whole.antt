@@ -1,11 +1,11 @@
 -- The model of equations that have used up their exponents.
-use Rattle.std.proofs.Common.{◌≡◌, ℤ, List, map, Ok, Err, sym, ap, ◌∙◌}
+use Rattle.std.proofs.Common.{◌≡◌, ℤ, List, [], map, Ok, Err, sym, ap, ◌∙◌}
 use Rattle.mp_statements.specs.Statements.{Item, Statement}
 use Rattle.mp_semantics.specs.Model as m
 use Rattle.mp_values.specs.Names.{Names, names_of}
 use Rattle.mp_values.specs.Table.{Table}
 use Rattle.mp_values.specs.Limits.{Folded, Stuck, ◌>>=◌}
-use Rattle.mp_values.specs.From.{equations_from, used_up}
+use Rattle.mp_values.specs.From.{items_from, used_up}
 use Rattle.mp_values.specs.ModelOf.{parameters_given, equations_given, model_with}
 use Rattle.mp_model_data.specs.Shown.{Held, equation_in, model_data}
 use Rattle.mp_trees.specs.declared.fault.ModelFault.{ModelFault}
@@ -24,14 +24,14 @@ used_up_gives : {X : Type 0} (r : Folded X) (x : X) (left : List ℤ) → used_u
 used_up_gives (Ok y) x left e = ap (λ s. s >>= without_rest) e
 used_up_gives (Err k) x left e = absurd (let z : ⊥ = cc in z)
 
-module _ (g ns : Names) (items : List Item) (js ks : List ℤ) (given : Folded (List m.Equation)) (named : g ≡ ns) (same : js ≡ ks) (law : equations_from ns items ks ≡ used_up given) where
-  all : equations_from g items js ≡ used_up given
-  all = ap (λ n. equations_from n items js) named ∙ ap (equations_from ns items) same ∙ law
+module _ (g ns : Names) (items : List Item) (js ks : List ℤ) (given : Folded (List m.Equation)) (named : g ≡ ns) (same : js ≡ ks) (law : items_from ns [] items ks ≡ used_up given) where
+  all : items_from g [] items js ≡ used_up given
+  all = ap (λ n. items_from n [] items js) named ∙ ap (items_from ns [] items) same ∙ law
 
-  pub equations_fail : (e : ModelFault) → Fails e (equations_from g items js) → Fails e given
-  equations_fail e fails = Fails-whole e (equations_from g items js) given (λ s is. used_up_fails given s (sym all ∙ is)) fails
+  pub equations_fail : (e : ModelFault) → Fails e (items_from g [] items js) → Fails e given
+  equations_fail e fails = Fails-whole e (items_from g [] items js) given (λ s is. used_up_fails given s (sym all ∙ is)) fails
 
-  pub equations_are : (es : List m.Equation) (left : List ℤ) → equations_from g items js ≡ Ok (es, left) → given ≡ Ok es
+  pub equations_are : (es : List m.Equation) (left : List ℤ) → items_from g [] items js ≡ Ok (es, left) → given ≡ Ok es
   equations_are es left is = used_up_gives given es left (sym all ∙ is)
 
 pub model_is : (file : List Statement) (t : Table) (h : Held) → parameters_given t ≡ Ok h.parameters → equations_given file t ≡ Ok (map (equation_in h.graph.terms) h.equations) → h.graph.names ≡ names_of file → model_at file t ≡ Ok (model_data h)

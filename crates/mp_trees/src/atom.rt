@@ -7,11 +7,14 @@ ghost use Rattle.mp_graph.specs.Shared.{term_at, Keeps};
 ghost use Rattle.mp_tokens.specs.Literals.{number_of};
 ghost use Rattle.mp_file.specs.Shown.{shift_of as named_shift, named_of};
 ghost use Rattle.mp_values.specs.Names.{along, named_term, shift_of};
-ghost use Rattle.mp_values.specs.Limits.{limited};
+ghost use Rattle.mp_values.specs.Limits.{limited, known};
+ghost use Rattle.mp_values.specs.ModelOf.{meaning_of};
 ghost use Rattle.mp_trees.specs.Gives.{Gives, IsFarLiteral, same, up_to_limit};
+ghost use Rattle.mp_trees.specs.Locals.{AreNodes, locals_in};
 ghost use Rattle.mp_trees.specs.Parts.{number_given, name_given};
 
 use crate::fault::{ModelFault, whole};
+use crate::locals::Locals;
 use mp_base::{DataKind, DataRefusal};
 use mp_expr::VarId;
 use mp_file::{Named, Shift};
@@ -55,21 +58,54 @@ fn far_literal<'t>(at: u32) -> ModelFault<'t>
     })
 }
 
-// The node of the variable of a name, shifted, or of its parameter.
+// The node of the expression of a local, of the variable of a name, shifted, or of its parameter.
 pub(crate) fn name_node<'t>(
     graph: &mut Graph<'t>,
+    locals: &Locals<'t>,
     name: Named<'t>,
     shift: Option<Shift<'t>>,
 ) -> Result<NodeId, ModelFault<'t>>
-    ensures node { Gives (term_at graph.new.terms) result (name_given graph.old.names (named_of name.entry) (option_map named_shift shift.entry)) }
+    requires { AreNodes graph.old.terms locals.now }
+    ensures node { Gives (term_at graph.new.terms) result (name_given graph.old.names (locals_in graph.old.terms locals.now) (named_of name.entry) (option_map named_shift shift.entry)) }
     ensures within { IfOk result (λ id. id < length graph.new.terms) }
     ensures kept { Keeps graph.old graph.new }
 {
     let shift = periods(name.at, shift)?;
-    match found_leaf(name.name, shift, graph.names()) {
+    meant_node(graph, locals, name.name, shift)
+}
+
+// The same where the shift is known.
+fn meant_node<'t>(
+    graph: &mut Graph<'t>,
+    locals: &Locals<'t>,
+    name: &'t [u8],
+    shift: i16,
+) -> Result<NodeId, ModelFault<'t>>
+    requires { AreNodes graph.old.terms locals.now }
+    ensures node { Gives (term_at graph.new.terms) result (known name.now (meaning_of graph.old.names (locals_in graph.old.terms locals.now) name.now shift)) }
+    ensures within { IfOk result (λ id. id < length graph.new.terms) }
+    ensures kept { Keeps graph.old graph.new }
+{
+    match locals.find(name) {
+        Some(node) => Ok(node),
+        None => declared_node(graph, name, shift),
+    }
+}
+
+// The node of the variable of a declared name, shifted, or of its parameter.
+fn declared_node<'t>(
+    graph: &mut Graph<'t>,
+    name: &'t [u8],
+    shift: i16,
+) -> Result<NodeId, ModelFault<'t>>
+    ensures node { Gives (term_at graph.new.terms) result (known name.now (named_term graph.old.names name.now shift)) }
+    ensures within { IfOk result (λ id. id < length graph.new.terms) }
+    ensures kept { Keeps graph.old graph.new }
+{
+    match found_leaf(name, shift, graph.names()) {
         Some(op) => Ok(graph.intern(NodeOp::Leaf(op), &[])?),
         None => Err(ModelFault::Unvalued {
-            name: Name::of(name.name),
+            name: Name::of(name),
         }),
     }
 }

@@ -1,108 +1,94 @@
 // The equations of a file.
-ghost use Rattle.std.specs.Prelude.{◌≡◌, ◌<◌, [], ◌∷◌, ◌++◌, length, map, option_map, IfOk, OnOk};
-ghost use Rattle.std.specs.List.{AllByRecursion};
-ghost use Rattle.mp_statements.specs.Parts.{items_in, equations_of};
-ghost use Rattle.mp_file.specs.Shown.{expr_of, item_of, statement_of, file_of};
+ghost use Rattle.std.specs.Prelude.{◌≡◌, ◌<◌, length, option_map, IfOk};
+ghost use Rattle.mp_statements.specs.Parts.{name_of, unquoted};
+ghost use Rattle.mp_statements.specs.Sides.{right_side};
+ghost use Rattle.mp_semantics.specs.Shifted.{earlier};
+ghost use Rattle.mp_file.specs.Shown.{expr_of, equation_of};
+ghost use Rattle.mp_graph.specs.Images.{AreImages};
 ghost use Rattle.mp_graph.specs.Shared.{term_at, Keeps};
-ghost use Rattle.mp_model_data.specs.Shown.{equation_in, IsWithin};
-ghost use Rattle.mp_values.specs.From.{right_from, equation_from, equations_from};
+ghost use Rattle.mp_model_data.specs.Shown.{equation_in, sides_of, IsWithin};
+ghost use Rattle.mp_values.specs.From.{right_from, equation_from};
+ghost use Rattle.mp_trees.specs.Earlier.{HasDifferences, SidesHaveDifferences};
 ghost use Rattle.mp_trees.specs.Gives.{Gives};
-ghost use Rattle.mp_trees.specs.Parts.{after_taken};
+ghost use Rattle.mp_trees.specs.Locals.{locals_in, AreNodes};
 
 use crate::exponents::Exponents;
 use crate::expression::node_of;
 use crate::fault::ModelFault;
-use mp_base::NoMemory;
-use mp_file::{Expression, File, Item, Statement};
-use mp_graph::{Graph, LeafOp, NodeId, NodeOp};
-use mp_model_data::Sides;
-use std::alloc::{AllocError, Global};
+use crate::locals::Locals;
+use mp_file::Expression;
+use mp_graph::{Graph, Images, LeafOp, NodeId, NodeOp};
+use mp_model_data::Equation;
+use std::alloc::Global;
 
-/// The nodes of both sides of an equation. A right side that is not written is 0 (Dynare manual, "The model file").
-pub fn sides_of<'t>(
+/// The nodes of both sides of an equation, with its name. A right side that is not written is 0 (Dynare manual, "The model
+/// file"). The images are those of earlier expressions.
+pub fn equation_nodes<'t>(
+    alloc: Global,
     graph: &mut Graph<'t>,
-    item: &Item<'t>,
+    locals: &Locals<'t>,
+    images: &mut Images,
+    equation: &mp_file::Equation<'t>,
     exponents: &mut Exponents<'_>,
-) -> Result<Sides, ModelFault<'t>>
-    ensures sides { Gives (λ x. (equation_in graph.new.terms x, exponents.new)) result (equation_from graph.old.names (item_of item.now) exponents.old) }
-    ensures within { IfOk result (IsWithin graph.new) }
+) -> Result<Equation<'t>, ModelFault<'t>>
+    requires locals { AreNodes graph.old.terms locals.now }
+    requires images { AreImages graph.old images.old earlier }
+    requires shifts { SidesHaveDifferences graph.old.names (locals_in graph.old.terms locals.now) (equation_of equation.now) }
+    ensures equation { Gives (λ x. (equation_in graph.new.terms (sides_of x), exponents.new)) result (equation_from graph.old.names (locals_in graph.old.terms locals.now) (equation_of equation.now) exponents.old) }
+    ensures within { IfOk result (λ x. IsWithin graph.new (sides_of x)) }
     ensures kept { Keeps graph.old graph.new }
+    ensures images { AreImages graph.new images.new earlier }
 {
-    let left = node_of(graph, &item.left, exponents)?;
-    let right = right_node(graph, &item.right, exponents)?;
-    Ok(Sides { left, right })
+    let left = node_of(alloc, graph, locals, images, &equation.left, exponents)?;
+    let right = right_node(alloc, graph, locals, images, &equation.right, exponents)?;
+    Ok(Equation {
+        name: name_of(equation),
+        left,
+        right,
+    })
 }
 
 // The node of a right side.
 fn right_node<'t>(
+    alloc: Global,
     graph: &mut Graph<'t>,
+    locals: &Locals<'t>,
+    images: &mut Images,
     right: &Option<Expression<'t>>,
     exponents: &mut Exponents<'_>,
 ) -> Result<NodeId, ModelFault<'t>>
-    ensures node { Gives (λ id. (term_at graph.new.terms id, exponents.new)) result (right_from graph.old.names (option_map expr_of right.now) exponents.old) }
+    requires locals { AreNodes graph.old.terms locals.now }
+    requires images { AreImages graph.old images.old earlier }
+    requires shifts { HasDifferences graph.old.names (locals_in graph.old.terms locals.now) (right_side (option_map expr_of right.now)) }
+    ensures node { Gives (λ id. (term_at graph.new.terms id, exponents.new)) result (right_from graph.old.names (locals_in graph.old.terms locals.now) (option_map expr_of right.now) exponents.old) }
     ensures within { IfOk result (λ id. id < length graph.new.terms) }
     ensures kept { Keeps graph.old graph.new }
+    ensures images { AreImages graph.new images.new earlier }
 {
     match right {
         None => Ok(graph.intern(NodeOp::Leaf(LeafOp::Num { m: 0, s: 0 }), &[])?),
-        Some(right) => node_of(graph, right, exponents),
+        Some(right) => node_of(alloc, graph, locals, images, right, exponents),
     }
 }
 
-// The equations of a file, in text order.
-pub(crate) fn sides_of_file<'t>(
-    alloc: Global,
-    graph: &mut Graph<'t>,
-    file: &File<'t>,
-    exponents: &mut Exponents<'_>,
-) -> Result<Vec<Sides>, ModelFault<'t>>
-    ensures sides { Gives (λ v. (map (equation_in graph.new.terms) v.items, exponents.new)) result (equations_from graph.old.names (equations_of (file_of file.now)) exponents.old) }
-    ensures within { IfOk result (λ v. AllByRecursion (IsWithin graph.new) v.items) }
-    ensures kept { Keeps graph.old graph.new }
+// The name that a tag gives an equation, if one does.
+fn name_of<'t>(equation: &mp_file::Equation<'t>) -> Option<&'t [u8]>
+    ensures { option_map (λ n. n.now) result ≡ name_of (equation_of equation.now) }
 {
-    let mut found = Vec::new(alloc);
-    'turns: for statement in file.statements.as_slice() {
-        add_each(graph, &mut found, items_of(statement), exponents)?;
+    'tags: for tag in equation.tags.as_slice() {
+        if tag.name.name == b"name".as_slice() {
+            return Some(unquoted(tag.text));
+        }
     }
-    Ok(found)
+    None
 }
 
-// Adds the equations of these items to those found so far.
-fn add_each<'t>(
-    graph: &mut Graph<'t>,
-    found: &mut Vec<Sides>,
-    items: &[Item<'t>],
-    exponents: &mut Exponents<'_>,
-) -> Result<(), ModelFault<'t>>
-    requires { AllByRecursion (IsWithin graph.old) found.old.items }
-    ensures sides { Gives (λ _. (map (equation_in graph.new.terms) found.new.items, exponents.new)) result (after_taken (map (equation_in graph.old.terms) found.old.items) (equations_from graph.old.names (map item_of items.now) exponents.old)) }
-    ensures within { OnOk result (AllByRecursion (IsWithin graph.new) found.new.items) }
-    ensures kept { Keeps graph.old graph.new }
+// What stands between the quotes of a text.
+fn unquoted(text: &[u8]) -> &[u8]
+    ensures { result.now ≡ unquoted text.now }
 {
-    'turns: for item in items {
-        let sides = sides_of(graph, item, exponents)?;
-        push(found, sides)?;
+    if text.len() < 2 {
+        return &[];
     }
-    Ok(())
-}
-
-// Adds one equation.
-fn push(found: &mut Vec<Sides>, sides: Sides) -> Result<(), NoMemory>
-    ensures { OnOk result (found.new.items ≡ found.old.items ++ sides ∷ []) }
-{
-    match found.push(sides) {
-        Ok(()) => Ok(()),
-        Err(e) => Err(AllocError::from(e).into()),
-    }
-}
-
-// The items that a statement holds.
-fn items_of<'a, 't>(statement: &'a Statement<'t>) -> &'a [Item<'t>]
-    ensures { map item_of result.now ≡ items_in (statement_of statement.now) }
-{
-    match statement {
-        Statement::Declares { .. } => &[],
-        Statement::Assigns { .. } => &[],
-        Statement::Model { items, .. } => items.as_slice(),
-    }
+    &text[1..text.len() - 1]
 }

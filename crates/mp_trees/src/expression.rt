@@ -1,22 +1,30 @@
 // The nodes of expressions.
 ghost use Rattle.std.specs.Prelude.{◌≡◌, ◌<◌, ◌≤◌, length, map, unsigned_abs, IfOk};
+ghost use Rattle.std.specs.List.{AllByRecursion};
 ghost use Rattle.mp_file.specs.Shown.{expr_of, further_of};
 ghost use Rattle.mp_semantics.specs.Term.{power_of};
+ghost use Rattle.mp_semantics.specs.Shifted.{earlier};
+ghost use Rattle.mp_graph.specs.Images.{AreImages};
 ghost use Rattle.mp_graph.specs.Op as shown;
 ghost use Rattle.mp_graph.specs.Shared.{term_at, Says, Keeps};
 ghost use Rattle.mp_values.specs.Limits.{binary_of};
 ghost use Rattle.mp_values.specs.ModelOf.{signed_term, binary_called};
 ghost use Rattle.mp_values.specs.From.{term_from};
+ghost use Rattle.mp_trees.specs.Earlier.{HasDifferences};
 ghost use Rattle.mp_trees.specs.Gives.{Gives};
+ghost use Rattle.mp_trees.specs.Locals.{locals_in, AreNodes};
 ghost use Rattle.mp_trees.specs.Parts.{further_from};
 
 use crate::atom::{name_node, number_node};
+use crate::earlier::difference_node;
 use crate::exponents::Exponents;
 use crate::fault::ModelFault;
+use crate::locals::Locals;
 use mp_base::NoMemory;
 use mp_file::{Expression, Further};
-use mp_graph::{BinaryOp, Graph, NodeId, NodeOp};
+use mp_graph::{BinaryOp, Graph, Images, NodeId, NodeOp};
 use mp_syntax::{Function, Operator, Sign};
+use std::alloc::Global;
 
 // An expression with the sign before it.
 fn signed_node(graph: &mut Graph<'_>, sign: Sign, operand: NodeId) -> Result<NodeId, NoMemory>
@@ -62,44 +70,66 @@ fn power_node(graph: &mut Graph<'_>, base: NodeId, exponent: i8) -> Result<NodeI
     graph.intern(NodeOp::Pow(exponent), &[base])
 }
 
-/// The node of an expression, where a name has its number among the names of the graph, and exponents are taken in text
-/// order. After a fault the graph may have grown.
+/// The node of an expression, where a name stands for the node of a local, or has its number among the names of the
+/// graph, and exponents are taken in text order. The images are those of earlier expressions. After a fault the graph may
+/// have grown.
 #[cycle(builder)]
 pub fn node_of<'t>(
+    alloc: Global,
     graph: &mut Graph<'t>,
+    locals: &Locals<'t>,
+    images: &mut Images,
     expression: &Expression<'t>,
     exponents: &mut Exponents<'_>,
 ) -> Result<NodeId, ModelFault<'t>>
-    ensures node { Gives (λ id. (term_at graph.new.terms id, exponents.new)) result (term_from graph.old.names (expr_of expression.now) exponents.old) }
+    requires locals { AreNodes graph.old.terms locals.now }
+    requires images { AreImages graph.old images.old earlier }
+    requires shifts { HasDifferences graph.old.names (locals_in graph.old.terms locals.now) (expr_of expression.now) }
+    ensures node { Gives (λ id. (term_at graph.new.terms id, exponents.new)) result (term_from graph.old.names (locals_in graph.old.terms locals.now) (expr_of expression.now) exponents.old) }
     ensures within { IfOk result (λ id. id < length graph.new.terms) }
     ensures kept { Keeps graph.old graph.new }
+    ensures images { AreImages graph.new images.new earlier }
 {
     match expression {
         Expression::Number { literal, at } => number_node(graph, literal, *at),
-        Expression::Variable { name } => name_node(graph, *name, None),
-        Expression::Shifted { name, shift } => name_node(graph, *name, Some(*shift.get())),
+        Expression::Variable { name } => name_node(graph, locals, *name, None),
+        Expression::Shifted { name, shift } => name_node(graph, locals, *name, Some(*shift.get())),
         Expression::Signed { sign, operand } => {
-            let operand = node_of(graph, operand.get(), exponents)?;
+            let operand = node_of(alloc, graph, locals, images, operand.get(), exponents)?;
             Ok(signed_node(graph, *sign, operand)?)
         }
         Expression::Chain { first, more } => {
-            let first = node_of(graph, first.get(), exponents)?;
-            further_node(graph, first, more.as_slice(), exponents)
+            let first = node_of(alloc, graph, locals, images, first.get(), exponents)?;
+            further_node(
+                alloc,
+                graph,
+                locals,
+                images,
+                first,
+                more.as_slice(),
+                exponents,
+            )
         }
         Expression::Power { base, .. } => {
-            let base = node_of(graph, base.get(), exponents)?;
+            let base = node_of(alloc, graph, locals, images, base.get(), exponents)?;
             Ok(power_node(graph, base, exponents.next())?)
         }
-        Expression::Paren { inside } => node_of(graph, inside.get(), exponents),
+        Expression::Paren { inside } => {
+            node_of(alloc, graph, locals, images, inside.get(), exponents)
+        }
         Expression::Call {
             function,
             first,
             second,
         } => {
-            let first = node_of(graph, first.get(), exponents)?;
-            let second = node_of(graph, second.get(), exponents)?;
+            let first = node_of(alloc, graph, locals, images, first.get(), exponents)?;
+            let second = node_of(alloc, graph, locals, images, second.get(), exponents)?;
             let op = NodeOp::Binary(calling(*function));
             Ok(graph.intern(op, &[first, second])?)
+        }
+        Expression::Diff { inside, .. } => {
+            let inside = node_of(alloc, graph, locals, images, inside.get(), exponents)?;
+            Ok(difference_node(alloc, graph, images, inside)?)
         }
     }
 }
@@ -107,19 +137,26 @@ pub fn node_of<'t>(
 // These operands joined to a first one, from left to right.
 #[cycle(builder)]
 fn further_node<'t>(
+    alloc: Global,
     graph: &mut Graph<'t>,
+    locals: &Locals<'t>,
+    images: &mut Images,
     first: NodeId,
     more: &[Further<'t>],
     exponents: &mut Exponents<'_>,
 ) -> Result<NodeId, ModelFault<'t>>
-    requires { first < length graph.old.terms }
-    ensures node { Gives (λ id. (term_at graph.new.terms id, exponents.new)) result (further_from graph.old.names (term_at graph.old.terms first) (map further_of more.now) exponents.old) }
+    requires first { first < length graph.old.terms }
+    requires locals { AreNodes graph.old.terms locals.now }
+    requires images { AreImages graph.old images.old earlier }
+    requires shifts { AllByRecursion (λ f. HasDifferences graph.old.names (locals_in graph.old.terms locals.now) f.operand) (map further_of more.now) }
+    ensures node { Gives (λ id. (term_at graph.new.terms id, exponents.new)) result (further_from graph.old.names (locals_in graph.old.terms locals.now) (term_at graph.old.terms first) (map further_of more.now) exponents.old) }
     ensures within { IfOk result (λ id. id < length graph.new.terms) }
     ensures kept { Keeps graph.old graph.new }
+    ensures images { AreImages graph.new images.new earlier }
 {
     let mut node = first;
     'turns: for next in more {
-        let operand = node_of(graph, &next.operand, exponents)?;
+        let operand = node_of(alloc, graph, locals, images, &next.operand, exponents)?;
         node = graph.intern(NodeOp::Binary(joining(next.op)), &[node, operand])?;
     }
     Ok(node)

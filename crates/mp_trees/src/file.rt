@@ -1,9 +1,10 @@
 // The model of a file.
-ghost use Rattle.std.specs.Prelude.{◌≡◌, [], ◌∷◌, ◌++◌, ◌<◌, Some, Ok, length, slice_get, map, OnOk};
+ghost use Rattle.std.specs.Prelude.{◌≡◌, [], ◌∷◌, ◌++◌, ◌<◌, Some, None, Ok, length, slice_get, map, OnOk};
 ghost use Rattle.mp_file.specs.Shown.{file_of};
-ghost use Rattle.mp_statements.specs.Parts.{equations_of};
+ghost use Rattle.mp_statements.specs.Parts.{items_of};
 ghost use Rattle.mp_model_data.specs.Shown.{parameter_of, model_data};
-ghost use Rattle.mp_values.specs.Names.{names_of};
+ghost use Rattle.mp_values.specs.Names.{names_of, is_variable};
+ghost use Rattle.mp_values.specs.Shifts.{far_name, no_locals};
 ghost use Rattle.mp_names.specs.Entry.{entry_of};
 ghost use Rattle.mp_values.specs.Values.{values_given};
 ghost use Rattle.mp_values.specs.Exponents.{all_exponents};
@@ -11,9 +12,9 @@ ghost use Rattle.mp_values.specs.ModelOf.{parameters_given};
 ghost use Rattle.mp_trees.specs.Gives.{Gives};
 ghost use Rattle.mp_trees.specs.Parts.{model_at, parameter_given};
 
-use crate::equation::sides_of_file;
 use crate::exponents::Exponents;
 use crate::fault::ModelFault;
+use crate::made::equations_of_file;
 use mp_base::NoMemory;
 use mp_file::File;
 use mp_fold::{Exponent, Name};
@@ -22,9 +23,10 @@ use mp_model_data::{Model, Parameter};
 use mp_names::{Entry, Names, Table};
 use std::alloc::{AllocError, Global};
 
-/// The model of a file that declares these names, where its parameters have these values at last, and the exponents of
-/// its equations are these: first each parameter needs its value, then each equation its nodes, both in text order. The
-/// first that is refused is the fault.
+/// The model of a file that declares these names, where its parameters have these values at last, the exponents of its
+/// items are these, and no name is shifted by more than 24 periods once locals are replaced and differences are taken:
+/// first each parameter needs its value, then each item its nodes, both in text order. The first that is refused is the
+/// fault.
 pub fn model<'t>(
     alloc: Global,
     file: &File<'t>,
@@ -34,14 +36,15 @@ pub fn model<'t>(
 ) -> Result<Model<'t>, ModelFault<'t>>
     requires names { names ≡ names_of (file_of file.now) }
     requires values { values_given (file_of file.now) ≡ Ok table.now }
-    requires exponents { all_exponents table.now (equations_of (file_of file.now)) ≡ Ok exponents.now }
+    requires exponents { all_exponents table.now (items_of (file_of file.now)) ≡ Ok exponents.now }
+    requires far { far_name 24 (no_locals (is_variable names)) (items_of (file_of file.now)) ≡ None }
     ensures { Gives model_data result (model_at (file_of file.now) table.now) }
 {
     mp_values::exponents_law();
     let parameters = parameters_of(alloc, table)?;
     let mut graph = Graph::new(alloc, names);
     let mut exponents = Exponents::of(exponents);
-    let equations = sides_of_file(alloc, &mut graph, file, &mut exponents)?;
+    let equations = equations_of_file(alloc, &mut graph, file, &mut exponents)?;
     Ok(Model::new(graph, parameters, equations))
 }
 

@@ -2,14 +2,18 @@
 #![tactic(auto)]
 
 pub mod atom;
+pub mod earlier;
 pub mod equation;
 pub mod exponents;
 pub mod expression;
 pub mod fault;
 pub mod file;
+pub mod locals;
+mod made;
 
-pub use equation::sides_of;
+pub use equation::equation_nodes;
 pub use exponents::Exponents;
 pub use expression::node_of;
 pub use fault::ModelFault;
 pub use file::model;
+pub use locals::Locals;

@@ -1,16 +1,18 @@
 -- Terms that take their exponents from a list are the terms whose exponents are valued where they stand.
 use Rattle.std.proofs.Common.{◌≡◌, ℤ, List, [], ◌∷◌, ◌++◌, append-nil, append_assoc, Option, Some, None, Ok, Err, refl, sym, ap, ◌∙◌}
 use Rattle.mp_tokens.specs.Literals.{Decimal, decimal_of}
-use Rattle.mp_syntax.specs.Syntax.{Expr, Number, Variable, Signed, Binary, Power, Paren, Call}
-use Rattle.mp_statements.specs.Statements.{Item}
+use Rattle.mp_syntax.specs.Syntax.{Expr, Number, Variable, Signed, Binary, Power, Paren, Call, Diff}
+use Rattle.mp_statements.specs.Statements.{Equation, Item, Local, Equates}
+use Rattle.mp_statements.specs.Parts.{name_of}
 use Rattle.mp_semantics.specs.Term as sem
+use Rattle.mp_semantics.specs.Shifted.{difference}
 use Rattle.mp_values.specs.Table.{Table}
-use Rattle.mp_values.specs.Names.{Names, named_term, shift_of}
+use Rattle.mp_values.specs.Names.{Names, shift_of}
 use Rattle.mp_values.specs.Limits.{Folded, ◌>>=◌, known, binary_of, limited}
 use Rattle.mp_values.specs.Values.{folded, exponent_at}
-use Rattle.mp_values.specs.Exponents.{joined, exponents_given, right_exponents, item_exponents, all_exponents}
-use Rattle.mp_values.specs.ModelOf.{number_by, signed_term, binary_called, term_given, right_given, equation, equation_given, each}
-use Rattle.mp_values.specs.From.{first_of, rest_of, Taken, used_up, term_from, right_from, equation_from, equations_from}
+use Rattle.mp_values.specs.Exponents.{joined, exponents_given, right_exponents, equation_exponents, all_exponents}
+use Rattle.mp_values.specs.ModelOf.{Locals, number_by, signed_term, binary_called, meaning_of, term_given, right_given, equation_named, equation_given, items_given}
+use Rattle.mp_values.specs.From.{first_of, rest_of, Taken, used_up, term_from, right_from, equation_from, items_from}
 
 -- what is given, and this rest
 abbrev pub beside : {X : Type 0} → Folded X → List ℤ → Taken X
@@ -97,33 +99,48 @@ on_same (Err e) f g h = refl
 takes_same : {X : Type 0} (of : List ℤ → Taken X) (x y : Folded X) (r s : Folded (List ℤ)) → x ≡ y → r ≡ s → Takes of x r → Takes of y s
 takes_same of x y r s is same h ks rest e = h ks rest (same ∙ e) ∙ ap (λ u. beside u rest) is
 
-pub term_takes : (ns : Names) (t : Table) (e : Expr) → Takes (term_from ns e) (term_given ns t e) (exponents_given t e)
-term_takes ns t (Number literal at) = none _ _ (number_beside (limited.literal at (decimal_of literal)))
-term_takes ns t (Variable name shift) = none _ _ (name_beside (limited.shift name.at (shift_of shift)) (λ k. known name.name (named_term ns name.name k)))
-term_takes ns t (Signed s a) = one (signed_term s) (term_from ns a) (term_given ns t a) (exponents_given t a) (term_takes ns t a)
-term_takes ns t (Binary o a at b) =
-    two (sem.binary (binary_of o)) (term_from ns a) (term_from ns b) (term_given ns t a) (term_given ns t b) (exponents_given t a) (exponents_given t b) (term_takes ns t a) (term_takes ns t b)
-term_takes ns t (Power a at s b) =
-    takes_same (term_from ns (Power a at s b)) _ _ _ _
-    (on_same (term_given ns t a) _ _ (λ x. in_two (folded t b) (λ y. exponent_at limited at s y) (λ k. Ok (sem.power_of x k))))
+-- one thing, and then what is made of it and of the exponents that it leaves
+on_beside : {X Y : Type 0} (of : X → List ℤ → Taken Y) (given : X → Folded Y) (middle rest : List ℤ) → ((x : X) → of x middle ≡ beside (given x) rest) → (r : Folded X) → (beside r middle >>= λ x. of x.0 x.1) ≡ beside (r >>= given) rest
+on_beside of given middle rest h (Ok x) = h x
+on_beside of given middle rest h (Err e) = refl
+
+then_takes : {X Y : Type 0} (first : List ℤ → Taken X) (of : X → List ℤ → Taken Y) (x : Folded X) (given : X → Folded Y) (r s : Folded (List ℤ)) → Takes first x r → ((a : X) → Takes (of a) (given a) s) → Takes (λ ks. first ks >>= λ a. of a.0 a.1) (x >>= given) (joined r s)
+then_takes first of x given r s h next ks rest e =
+    let p : Parts r s ks = parts r s ks e in
+    ap (λ l. first l >>= λ a. of a.0 a.1) (ap (λ l. l ++ rest) p.both ∙ append_assoc p.front p.back rest)
+    ∙ ap (λ u. u >>= λ a. of a.0 a.1) (h p.front (p.back ++ rest) p.left)
+    ∙ on_beside of given (p.back ++ rest) rest (λ a. next a p.back rest p.right) x
+
+pub term_takes : (ns : Names) (ls : Locals) (t : Table) (e : Expr) → Takes (term_from ns ls e) (term_given ns ls t e) (exponents_given t e)
+term_takes ns ls t (Number literal at) = none _ _ (number_beside (limited.literal at (decimal_of literal)))
+term_takes ns ls t (Variable name shift) = none _ _ (name_beside (limited.shift name.at (shift_of shift)) (λ k. known name.name (meaning_of ns ls name.name k)))
+term_takes ns ls t (Signed s a) = one (signed_term s) (term_from ns ls a) (term_given ns ls t a) (exponents_given t a) (term_takes ns ls t a)
+term_takes ns ls t (Binary o a at b) =
+    two (sem.binary (binary_of o)) (term_from ns ls a) (term_from ns ls b) (term_given ns ls t a) (term_given ns ls t b) (exponents_given t a) (exponents_given t b) (term_takes ns ls t a) (term_takes ns ls t b)
+term_takes ns ls t (Power a at s b) =
+    takes_same (term_from ns ls (Power a at s b)) _ _ _ _
+    (on_same (term_given ns ls t a) _ _ (λ x. in_two (folded t b) (λ y. exponent_at limited at s y) (λ k. Ok (sem.power_of x k))))
     (ap (λ u. joined (exponents_given t a) u) (in_two (folded t b) (λ y. exponent_at limited at s y) (λ k. Ok (k ∷ []))))
-    (power_takes (term_from ns a) (term_given ns t a) (folded t b >>= λ y. exponent_at limited at s y) (exponents_given t a) (term_takes ns t a))
-term_takes ns t (Paren a) = term_takes ns t a
-term_takes ns t (Call f a b) =
-    two (sem.binary (binary_called f)) (term_from ns a) (term_from ns b) (term_given ns t a) (term_given ns t b) (exponents_given t a) (exponents_given t b) (term_takes ns t a) (term_takes ns t b)
+    (power_takes (term_from ns ls a) (term_given ns ls t a) (folded t b >>= λ y. exponent_at limited at s y) (exponents_given t a) (term_takes ns ls t a))
+term_takes ns ls t (Paren a) = term_takes ns ls t a
+term_takes ns ls t (Call f a b) =
+    two (sem.binary (binary_called f)) (term_from ns ls a) (term_from ns ls b) (term_given ns ls t a) (term_given ns ls t b) (exponents_given t a) (exponents_given t b) (term_takes ns ls t a) (term_takes ns ls t b)
+term_takes ns ls t (Diff at a) = one difference (term_from ns ls a) (term_given ns ls t a) (exponents_given t a) (term_takes ns ls t a)
 
-right_takes : (ns : Names) (t : Table) (right : Option Expr) → Takes (right_from ns right) (right_given ns t right) (right_exponents t right)
-right_takes ns t None = none (right_from ns None) (Ok (sem.leaf (sem.number 0 0))) (λ ks. refl)
-right_takes ns t (Some e) = term_takes ns t e
+right_takes : (ns : Names) (ls : Locals) (t : Table) (right : Option Expr) → Takes (right_from ns ls right) (right_given ns ls t right) (right_exponents t right)
+right_takes ns ls t None = none (right_from ns ls None) (Ok (sem.leaf (sem.number 0 0))) (λ ks. refl)
+right_takes ns ls t (Some e) = term_takes ns ls t e
 
-pub item_takes : (ns : Names) (t : Table) (x : Item) → Takes (equation_from ns x) (equation_given ns t x) (item_exponents t x)
-item_takes ns t x =
-    two equation (term_from ns x.left) (right_from ns x.right) (term_given ns t x.left) (right_given ns t x.right) (exponents_given t x.left) (right_exponents t x.right) (term_takes ns t x.left) (right_takes ns t x.right)
+pub equation_takes : (ns : Names) (ls : Locals) (t : Table) (x : Equation) → Takes (equation_from ns ls x) (equation_given ns ls t x) (equation_exponents t x)
+equation_takes ns ls t x =
+    two (equation_named (name_of x)) (term_from ns ls x.left) (right_from ns ls x.right) (term_given ns ls t x.left) (right_given ns ls t x.right) (exponents_given t x.left) (right_exponents t x.right) (term_takes ns ls t x.left) (right_takes ns ls t x.right)
 
-pub items_take : (ns : Names) (t : Table) (xs : List Item) → Takes (equations_from ns xs) (each (equation_given ns t) xs) (all_exponents t xs)
-items_take ns t [] = none (equations_from ns []) (Ok []) (λ ks. refl)
-items_take ns t (x ∷ xs) =
-    two (λ y ys. y ∷ ys) (equation_from ns x) (equations_from ns xs) (equation_given ns t x) (each (equation_given ns t) xs) (item_exponents t x) (all_exponents t xs) (item_takes ns t x) (items_take ns t xs)
+pub items_take : (ns : Names) (t : Table) (ls : Locals) (xs : List Item) → Takes (items_from ns ls xs) (items_given ns t ls xs) (all_exponents t xs)
+items_take ns t ls [] = none (items_from ns ls []) (Ok []) (λ ks. refl)
+items_take ns t ls (Local name value ∷ xs) =
+    then_takes (term_from ns ls value) (λ x. items_from ns ((name.name, x) ∷ ls) xs) (term_given ns ls t value) (λ x. items_given ns t ((name.name, x) ∷ ls) xs) (exponents_given t value) (all_exponents t xs) (term_takes ns ls t value) (λ x. items_take ns t ((name.name, x) ∷ ls) xs)
+items_take ns t ls (Equates equation ∷ xs) =
+    two (λ y ys. y ∷ ys) (equation_from ns ls equation) (items_from ns ls xs) (equation_given ns ls t equation) (items_given ns t ls xs) (equation_exponents t equation) (all_exponents t xs) (equation_takes ns ls t equation) (items_take ns t ls xs)
 
-pub all_used : (ns : Names) (t : Table) (items : List Item) (ks : List ℤ) → all_exponents t items ≡ Ok ks → equations_from ns items ks ≡ used_up (each (equation_given ns t) items)
-all_used ns t items ks e = ap (λ l. equations_from ns items l) (sym (append-nil ks)) ∙ items_take ns t items ks [] e
+pub all_used : (ns : Names) (t : Table) (items : List Item) (ks : List ℤ) → all_exponents t items ≡ Ok ks → items_from ns [] items ks ≡ used_up (items_given ns t [] items)
+all_used ns t items ks e = ap (λ l. items_from ns [] items l) (sym (append-nil ks)) ∙ items_take ns t [] items ks [] e

@@ -9,16 +9,16 @@ use Rattle.mp_tokens.specs.Literals.{Decimal, decimal_of, is_in_range}
 use Rattle.mp_syntax.specs.declared.operator.Sign.{Sign}
 use Rattle.mp_syntax.specs.declared.operator.Operator.{Operator}
 use Rattle.mp_syntax.specs.declared.operator.Operator.TheVariants as op
-use Rattle.mp_syntax.specs.Syntax.{Expr, Number, Variable, Signed, Binary, Power, Paren, Call}
-use Rattle.mp_statements.specs.Statements.{Item, Statement, Declares, Assigns, Model}
-use Rattle.mp_statements.specs.Parts.{equations_of}
+use Rattle.mp_syntax.specs.Syntax.{Expr, Number, Variable, Signed, Binary, Power, Paren, Call, Diff}
+use Rattle.mp_statements.specs.Statements.{Equation, Item, Local, Equates, Statement, Declares, Assigns, Model, Notes}
+use Rattle.mp_statements.specs.Parts.{items_of}
 use Rattle.mp_semantics.specs.Model as m
 use Rattle.mp_semantics.specs.Value.{result_of}
 use Rattle.mp_values.specs.Table.{Table, unset, with_value}
 use Rattle.mp_values.specs.Names.{Names, names_of, shift_of}
 use Rattle.mp_values.specs.Limits.{Stuck, Folded, ◌>>=◌, answer, whole_of, binary_of, exact, limited, defined, told, outcome_of, exponent_or, near_exponent}
 use Rattle.mp_values.specs.Values.{with_sign_if, exponent_at, value_by, assigned_by, values_by}
-use Rattle.mp_values.specs.ModelOf.{term_by, right_by, equation_by, each, parameters_given, model_by, model_of, model_given}
+use Rattle.mp_values.specs.ModelOf.{Locals, term_by, right_by, equation_by, items_by, parameters_given, model_by, model_of, model_given}
 
 -- where the first answers, the second answers the same
 abbrev Below : {A : Type 0} → Folded A → Folded A → Type 0
@@ -83,38 +83,42 @@ value_below by t (Binary o a at b) = on _ _ _ _ (value_below by t a) (λ x. on _
 value_below by t (Power a at s b) = on _ _ _ _ (value_below by t a) (λ x. on _ _ _ _ (value_below by t b) (λ y. on _ _ _ _ (sign_below at s y) (λ k. raised_below by at x k)))
 value_below by t (Paren a) = value_below by t a
 value_below by t (Call f a b) = on _ _ _ _ (value_below by t a) (λ x. on _ _ _ _ (value_below by t b) (λ y. same _))
+value_below by t (Diff at a) = on _ _ _ _ (value_below by t a) (λ x. same _)
 
 pub assigned_below : Answers → (t : Table) (file : List Statement) → Below (assigned_by limited t file) (assigned_by exact t file)
 assigned_below by t [] = same _
 assigned_below by t (Declares kind names ∷ more) = assigned_below by t more
 assigned_below by t (Assigns name value ∷ more) = on _ _ _ _ (value_below by t value) (λ x. assigned_below by (with_value name.name (Some x) t) more)
-assigned_below by t (Model at items ∷ more) = assigned_below by t more
+assigned_below by t (Model at choices items ∷ more) = assigned_below by t more
+assigned_below by t (Notes command names ∷ more) = assigned_below by t more
 
 pub values_below : Answers → (file : List Statement) → Below (values_by limited file) (values_by exact file)
 values_below by file = assigned_below by (unset (names_of file).parameters) file
 
-pub term_below : Answers → (ns : Names) (t : Table) (e : Expr) → Below (term_by limited ns t e) (term_by exact ns t e)
-term_below by ns t (Number literal at) = on _ _ _ _ (literal_below at (decimal_of literal)) (λ n. same _)
-term_below by ns t (Variable name shift) = on _ _ _ _ (shift_below name.at (shift_of shift)) (λ k. same _)
-term_below by ns t (Signed s a) = on _ _ _ _ (term_below by ns t a) (λ x. same _)
-term_below by ns t (Binary o a at b) = on _ _ _ _ (term_below by ns t a) (λ x. on _ _ _ _ (term_below by ns t b) (λ y. same _))
-term_below by ns t (Power a at s b) = on _ _ _ _ (term_below by ns t a) (λ x. on _ _ _ _ (value_below by t b) (λ y. on _ _ _ _ (sign_below at s y) (λ k. same _)))
-term_below by ns t (Paren a) = term_below by ns t a
-term_below by ns t (Call f a b) = on _ _ _ _ (term_below by ns t a) (λ x. on _ _ _ _ (term_below by ns t b) (λ y. same _))
+pub term_below : Answers → (ns : Names) (ls : Locals) (t : Table) (e : Expr) → Below (term_by limited ns ls t e) (term_by exact ns ls t e)
+term_below by ns ls t (Number literal at) = on _ _ _ _ (literal_below at (decimal_of literal)) (λ n. same _)
+term_below by ns ls t (Variable name shift) = on _ _ _ _ (shift_below name.at (shift_of shift)) (λ k. same _)
+term_below by ns ls t (Signed s a) = on _ _ _ _ (term_below by ns ls t a) (λ x. same _)
+term_below by ns ls t (Binary o a at b) = on _ _ _ _ (term_below by ns ls t a) (λ x. on _ _ _ _ (term_below by ns ls t b) (λ y. same _))
+term_below by ns ls t (Power a at s b) = on _ _ _ _ (term_below by ns ls t a) (λ x. on _ _ _ _ (value_below by t b) (λ y. on _ _ _ _ (sign_below at s y) (λ k. same _)))
+term_below by ns ls t (Paren a) = term_below by ns ls t a
+term_below by ns ls t (Call f a b) = on _ _ _ _ (term_below by ns ls t a) (λ x. on _ _ _ _ (term_below by ns ls t b) (λ y. same _))
+term_below by ns ls t (Diff at a) = on _ _ _ _ (term_below by ns ls t a) (λ x. same _)
 
-right_below : Answers → (ns : Names) (t : Table) (right : Option Expr) → Below (right_by limited ns t right) (right_by exact ns t right)
-right_below by ns t None = same _
-right_below by ns t (Some e) = term_below by ns t e
+right_below : Answers → (ns : Names) (ls : Locals) (t : Table) (right : Option Expr) → Below (right_by limited ns ls t right) (right_by exact ns ls t right)
+right_below by ns ls t None = same _
+right_below by ns ls t (Some e) = term_below by ns ls t e
 
-equation_below : Answers → (ns : Names) (t : Table) (x : Item) → Below (equation_by limited ns t x) (equation_by exact ns t x)
-equation_below by ns t x = on _ _ _ _ (term_below by ns t x.left) (λ l. on _ _ _ _ (right_below by ns t x.right) (λ r. same _))
+equation_below : Answers → (ns : Names) (ls : Locals) (t : Table) (x : Equation) → Below (equation_by limited ns ls t x) (equation_by exact ns ls t x)
+equation_below by ns ls t x = on _ _ _ _ (term_below by ns ls t x.left) (λ l. on _ _ _ _ (right_below by ns ls t x.right) (λ r. same _))
 
-each_below : {A B : Type 0} (f g : A → Folded B) → ((x : A) → Below (f x) (g x)) → (xs : List A) → Below (each f xs) (each g xs)
-each_below f g by [] = same _
-each_below f g by (x ∷ xs) = on _ _ _ _ (by x) (λ y. on _ _ _ _ (each_below f g by xs) (λ ys. same _))
+items_below : Answers → (ns : Names) (t : Table) (ls : Locals) (xs : List Item) → Below (items_by limited ns t ls xs) (items_by exact ns t ls xs)
+items_below by ns t ls [] = same _
+items_below by ns t ls (Local name value ∷ xs) = on _ _ _ _ (term_below by ns ls t value) (λ x. items_below by ns t ((name.name, x) ∷ ls) xs)
+items_below by ns t ls (Equates equation ∷ xs) = on _ _ _ _ (equation_below by ns ls t equation) (λ y. on _ _ _ _ (items_below by ns t ls xs) (λ ys. same _))
 
 file_below : Answers → (file : List Statement) → Below (model_by limited file) (model_by exact file)
-file_below by file = on _ _ _ _ (values_below by file) (λ t. on _ _ _ _ (same (parameters_given t)) (λ ps. on _ _ _ _ (each_below (equation_by limited (names_of file) t) (equation_by exact (names_of file) t) (equation_below by (names_of file) t) (equations_of file)) (λ es. same _)))
+file_below by file = on _ _ _ _ (values_below by file) (λ t. on _ _ _ _ (same (parameters_given t)) (λ ps. on _ _ _ _ (items_below by (names_of file) t [] (items_of file)) (λ es. same _)))
 
 pub model_below : Answers → (file : List Statement) (M : m.Model) → model_given file ≡ Ok M → model_of file ≡ Some M
 model_below by file M e = ap answer (file_below by file M e)

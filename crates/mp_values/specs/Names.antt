@@ -1,5 +1,5 @@
 -- The names of a file, and what a name in an expression stands for.
-use Rattle.std.specs.Prelude.{ℕ, ℤ, pos, neg_ℤ, List, Option, Some, None, option_map, position}
+use Rattle.std.specs.Prelude.{ℕ, ℤ, pos, neg_ℤ, List, Bool, ◌||◌, Option, Some, None, is_some, option_map, position}
 use Rattle.std.specs.Option.{option_or}
 use Rattle.std.specs.Str.{bytes_eq}
 use Rattle.mp_syntax.specs.declared.operator.Sign.{Sign}
@@ -37,6 +37,10 @@ shift_of (Some s) = along s.sign (number_of s.digits)
 
 abbrev pub place_of : List (List ℕ) → List ℕ → Option ℕ
 place_of names name = position (bytes_eq name) names
+
+-- whether a name is that of a variable
+abbrev pub is_variable : Names → List ℕ → Bool
+is_variable names name = is_some (place_of names.endogenous name) || is_some (place_of names.exogenous name)
 
 -- a variable of this name, shifted, or a parameter; or nothing, where the name is not declared
 abbrev pub named_term : Names → List ℕ → ℤ → Option Term

@@ -1,5 +1,5 @@
 use Rattle.std.proofs.Common.{◌≡◌, map, drop}
-use Rattle.mp_statements.specs.Parts.{equations_of}
+use Rattle.mp_statements.specs.Parts.{items_of}
 use Rattle.mp_file.specs.Shown.{statement_of}
 use Rattle.mp_values.specs.Exponents.{all_exponents}
 use Rattle.mp_fold.specs.Collected.{after}
@@ -7,4 +7,4 @@ use Rattle.mp_decl.proofs.text.exponents.Given as goal
 
 abbrev pub invariant-turns : goal.invariant-turns
 invariant-turns l =
-    after l.found.items (all_exponents l.table (equations_of (map statement_of (drop l.statement-index l.statements)))) ≡ all_exponents l.table (equations_of (map statement_of l.statements))
+    after l.found.items (all_exponents l.table (items_of (map statement_of (drop l.statement-index l.statements)))) ≡ all_exponents l.table (items_of (map statement_of l.statements))

@@ -1,6 +1,6 @@
 use Rattle.std.proofs.Common.{refl, sym, ap, ◌∙◌, map, Ok, [], ◌∷◌}
 use Rattle.mp_file.specs.Shown.{expr_of, further_of}
-use Rattle.mp_file.proofs.Views.{signed_is, chain_is, power_is, paren_is, call_is}
+use Rattle.mp_file.proofs.Views.{signed_is, chain_is, power_is, paren_is, call_is, diff_is}
 use Rattle.mp_values.specs.Limits.{◌>>=◌, limited}
 use Rattle.mp_values.specs.Values.{folded, exponent_at}
 use Rattle.mp_values.specs.Exponents.{exponents_given}
@@ -16,6 +16,10 @@ add_expression-returns-in-Signed t c =
 pub add_expression-returns-in-Paren : goal.add_expression-returns-in-Paren
 add_expression-returns-in-Paren t c =
     same_reached c.add_expression-in-Paren.result _ _ _ (ap (λ e. after c.args.found.now.items (exponents_given c.args.table.now e)) (sym (paren_is c.in-Paren.is c.get-in-Paren.ensures))) c.add_expression-in-Paren.ensures
+
+pub add_expression-returns-in-Diff : goal.add_expression-returns-in-Diff
+add_expression-returns-in-Diff t c =
+    same_reached c.add_expression-in-Diff.result _ _ _ (ap (λ e. after c.args.found.now.items (exponents_given c.args.table.now e)) (sym (diff_is c.in-Diff.is c.get-in-Diff.ensures))) c.add_expression-in-Diff.ensures
 
 pub add_expression-returns-in_err-add_expression-in-Chain : goal.add_expression-returns-in_err-add_expression-in-Chain
 add_expression-returns-in_err-add_expression-in-Chain t c =

@@ -1,6 +1,7 @@
-use Rattle.std.proofs.Common.{sym, ap, ◌∙◌, Ok, map}
+use Rattle.std.proofs.Common.{sym, ap, ◌∙◌, Ok, map, pos}
 use Rattle.mp_file.specs.Shown.{expr_of, further_of}
-use Rattle.mp_file.proofs.Views.{signed_is, chain_is, power_is, paren_is, call_is}
+use Rattle.mp_file.proofs.Views.{signed_is, chain_is, power_is, paren_is, call_is, diff_is}
+use Rattle.mp_rational.specs.Fraction.{whole}
 use Rattle.mp_values.specs.Chained.{chained}
 use Rattle.mp_values.specs.Limits.{◌>>=◌, limited}
 use Rattle.mp_values.specs.Values.{folded, with_sign, chosen, exponent_at}
@@ -31,3 +32,7 @@ pub value_of-returns-in-Call : goal.value_of-returns-in-Call
 value_of-returns-in-Call t c =
     c.chosen.ensures ∙ both_are _ _ _ _ (λ a b. Ok (chosen c.in-Call.function a b)) c.value_of-x-in-Call.ensures c.value_of-y-in-Call.ensures
     ∙ ap (folded c.args.table.now) (sym (call_is c.in-Call.is c.get-in-Call.ensures c.get-in-Call-2.ensures))
+
+pub value_of-returns-in-Diff : goal.value_of-returns-in-Diff
+value_of-returns-in-Diff t c =
+    c.unchanging.ensures ∙ one_is _ _ (λ a. Ok (whole (pos 0))) c.value_of-in-Diff.ensures ∙ ap (folded c.args.table.now) (sym (diff_is c.in-Diff.is c.get-in-Diff.ensures))

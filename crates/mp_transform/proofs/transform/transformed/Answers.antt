@@ -4,7 +4,7 @@ use Rattle.mp_transform.proofs.transform.transformed.Goals as goal
 
 pub returns-clause-canonical : goal.returns-clause-canonical
 returns-clause-canonical c =
-    canonical c.grammar_law.ensures.found c.limits_law.ensures.model c.headline_law.ensures c.args.text.now c.in_ok-bytes.bytes c.in_ok-bytes.ensures.says
+    canonical c.grammar_law.ensures.found c.limits_law.ensures.model c.headline_law.ensures c.args.text.now c.in_ok-bytes.bytes c.in_ok-bytes.ensures.names c.in_ok-bytes.ensures.says
 
 pub returns-in_err-bytes-clause-wrong_token : goal.returns-in_err-bytes-clause-wrong_token
 returns-in_err-bytes-clause-wrong_token c =

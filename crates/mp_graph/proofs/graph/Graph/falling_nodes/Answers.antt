@@ -1,12 +1,11 @@
-use Rattle.std.proofs.Common.{◌≡◌, ◌∙◌, ◌∷◌, [], ◌++◌, ℕ, List, ap, sym, subst, arith, ◌<◌, ◌≤◌, length, get_or, false, true, refl}
-use Rattle.std.proofs.lemmas.List.Elements.{All-contains, Contains-push}
-use Rattle.std.specs.BTreeMap.Range.{IsLtBy}
+use Rattle.std.proofs.Common.{◌≡◌, ◌∙◌, ◌∷◌, [], ◌++◌, ℕ, ap, sym, subst, arith, ◌≤◌}
+use Rattle.std.proofs.lemmas.List.Elements.{Contains-push}
 use Rattle.std.specs.BTreeSet.{insert_key}
 use Rattle.std.specs.List.{Contains}
 use Rattle.std.specs.Ordering.{nat_cmp}
 use Rattle.mp_graph.specs.Op.{over}
 use Rattle.mp_graph.specs.Shared.{term_at}
-use Rattle.mp_graph.proofs.Fallen.{Falling, falling_first, falling_next, falling_end, less_under, new_low, below_top, top_within, top}
+use Rattle.mp_graph.proofs.Fallen.{Falling, falling_first, falling_next, falling_end, new_low, below_top, top_within, top, under, none_left}
 use Rattle.mp_graph.proofs.graph.Graph.falling_nodes.Goals as goal
 
 pub turns-init : goal.turns-init
@@ -20,9 +19,6 @@ pub node-requires : goal.node-requires
 node-requires c =
     let h : Contains c.turns.pending.keys c.in-Some.last = subst (λ l. Contains l c.in-Some.last) (sym c.in-Some.ensures.removal) (Contains-push c.pop_last.new.self.keys c.in-Some.last) in
     omega (arith, c.of-id.ensures, c.turns.invariant.within c.in-Some.last h)
-
-under : (rest : List ℕ) (q : ℕ) → ((k : ℕ) (d : ℕ) → k < length rest → IsLtBy nat_cmp (get_or rest k d) q) → (x : ℕ) → Contains rest x → x < q
-under rest q all x h = less_under x q (All-contains (λ y. IsLtBy nat_cmp y q) rest x all h)
 
 pub turns-smaller : goal.turns-smaller
 turns-smaller c =
@@ -43,10 +39,6 @@ turns-preserved c =
     c.turns.invariant c.in-Some.ensures.removal (under c.pop_last.new.self.keys c.in-Some.last c.in-Some.ensures.all_below) c.in_ok-add_each.ensures
     (subst (λ (n : ℕ). term_at c.args.self.now.terms n ≡ over c.args.self.now.terms c.node.result.op c.node.result.kids.now) c.of-id.ensures c.node.ensures.term)
     c.node.ensures.count (λ n l. omega (arith, c.node.ensures.below n l, c.of-id.ensures)))
-
-none_left : (ks : List ℕ) → (0 < length ks → false ≡ true) → ks ≡ []
-none_left [] h = refl
-none_left (k ∷ ks) h = let e = h (grind arith) in cc
 
 pub returns : goal.returns
 returns c =

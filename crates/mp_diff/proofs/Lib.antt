@@ -1,0 +1,4 @@
+pub mod Negations
+pub mod Noted
+pub mod Stands
+pub mod Tables

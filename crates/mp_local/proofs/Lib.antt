@@ -1,0 +1,15 @@
+mod Among
+mod Counts
+mod Depths
+mod Digits
+mod EndLaws
+mod EntryLaws
+mod FarLaws
+mod GivesLaws
+mod KnownLaws
+mod Limits
+mod ManyLaws
+mod ReachLaws
+mod SizeLaws
+mod Views
+mod WrittenLaws

@@ -1,0 +1,9 @@
+pub mod Ends
+pub mod Gives
+pub mod Known
+pub mod Local
+pub mod Locals
+pub mod Many
+pub mod Reaches
+pub mod Sizes
+pub mod Written

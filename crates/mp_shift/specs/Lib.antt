@@ -1,0 +1,5 @@
+pub mod Reach
+pub mod Called
+pub mod Faults
+pub mod Stand
+pub mod Equations

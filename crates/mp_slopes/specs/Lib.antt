@@ -1,0 +1,3 @@
+pub mod Derivative
+pub mod Dual
+pub mod Places

@@ -1,0 +1,11 @@
+pub mod Lists
+pub mod Leaves
+pub mod Numbering
+pub mod Periods
+pub mod Values
+pub mod Solutions
+pub mod Shape
+pub mod Which
+pub mod Digits
+pub mod Names
+pub mod Edges

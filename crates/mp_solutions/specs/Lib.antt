@@ -1,0 +1,6 @@
+pub mod Leaves
+pub mod Auxiliaries
+pub mod Transformed
+pub mod Extension
+pub mod Laws
+pub mod Example
