@@ -55,3 +55,4 @@ tried() {
 
 tried expand "$work/m"
 tried transform "$top/examples/one.mod"
+tried derive "$top/examples/growth.mod"

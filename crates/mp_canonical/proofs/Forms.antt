@@ -1,5 +1,5 @@
 -- The file of a model is one that a text may write.
-use Rattle.std.proofs.Common.{◌≡◌, ℕ, zero, suc, ℤ, pos, negsuc, ◌≤◌, ◌<◌, List, [], ◌∷◌, ◌++◌, map, Bool, true, false, cond, ◌||◌, ◌==◌, nat_lt, Option, Some, None, codes, refl, arith}
+use Rattle.std.proofs.Common.{ℕ, suc, ℤ, pos, negsuc, ◌≤◌, List, [], ◌∷◌, ◌++◌, map, Bool, true, false, cond, ◌==◌, Option, Some, None, codes, refl, arith}
 use Rattle.std.specs.List.{AllByRecursion}
 use Rattle.mp_rational.specs.Fraction.{Fraction}
 use Rattle.mp_rational.specs.Lowest.{numerator, denominator}
@@ -8,136 +8,40 @@ use Rattle.mp_syntax.specs.Syntax.{Shift, Named, Expr}
 use Rattle.mp_syntax.specs.Syntax as expr
 use Rattle.mp_statements.specs.declared.kind.NameKind.{NameKind}
 use Rattle.mp_statements.specs.declared.kind.NameKind.TheVariants as kind
-use Rattle.mp_semantics.specs.Term.{Leaf, number, parameter, variable, steady_state, Binary, plus, minus, times, quotient, least, greatest, Term, leaf, negative, binary, power_of, pick}
+use Rattle.mp_semantics.specs.Term.{Term}
 use Rattle.mp_semantics.specs.Model as m
-use Rattle.mp_expr.specs.Size.{height_of}
 use Rattle.mp_format.specs.Pieces.{IsName}
 use Rattle.mp_tokens.specs.Terminals.{word_of}
 use Rattle.mp_format.specs.Spelling.{FitsAll, FitsOpt}
-use Rattle.mp_expressions.specs.InForm.{AtPower, AtFactor, AtProduct, AtSum, IsShift, Deep, InForm}
+use Rattle.mp_expressions.specs.InForm.{Deep, InForm}
 use Rattle.mp_grammar.specs.Tags.{IsTag}
 use Rattle.mp_grammar.specs.Statements.{IsExpression, IsNamed, IsItem, IsStatement, IsFile}
 use Rattle.mp_values.specs.Names.{Names}
 use Rattle.mp_canonical.specs.Numbers.{decimal_digits}
-use Rattle.mp_canonical.specs.Terms.{level, operator_level, is_loose, is_loose_right, begins_minus, fenced, operation, unplaced, canonical_shift, canonical_leaf, canonical_whole, canonical_exponent, canonical, canonical_value}
-use Rattle.mp_canonical.specs.Printable.{model_names, IsPrintableLeaf, IsPrintableTerm, IsTagName, IsPrintableSide, IsPrintableEquation, IsPrintable}
+use Rattle.mp_canonical.specs.Terms.{unplaced, canonical_whole, canonical, canonical_value}
+use Rattle.mp_canonical.specs.Printable.{model_names, IsTagName, IsPrintableSide, IsPrintableEquation, IsPrintable}
 use Rattle.mp_canonical.specs.Files.{tags_part, names_part, value_part, equation_part, equations_part, canonical_file}
-use Rattle.mp_canonical.proofs.Numbers.{text_is_literal, digits_are}
+use Rattle.mp_canonical.proofs.Numbers.{text_is_literal}
+use Rattle.mp_canonical.proofs.Levels.{Forms, within_height}
 use Rattle.mp_canonical.proofs.TagNames.{quoted_text}
+use Rattle.mp_canonical.proofs.Writable.{writable}
 
--- in form at each level that it is bound as tightly as, with so many parentheses open inside
-record InLevel (room n : ℕ) (e : Expr) : Type 0 where
-  sum : AtSum (Deep (InForm room)) e
-  product : nat_lt n 2 ≡ false → AtProduct (Deep (InForm room)) e
-  factor : nat_lt n 3 ≡ false → AtFactor (Deep (InForm room)) e
-  power : nat_lt n 4 ≡ false → AtPower (Deep (InForm room)) e
-  atom : nat_lt n 5 ≡ false → Deep (InForm room) e
-
-tall : (t : Term) → 0 < height_of t
-tall (leaf l) = omega arith
-tall (negative a) = omega arith
-tall (binary op a b) = omega arith
-tall (power_of a k) = omega arith
-tall (pick a b c d) = omega arith
-
--- with parentheses, where it has them
-module _ (room : ℕ) (e : Expr) (inside : InForm room e) where
-  sum_fence : (b : Bool) → AtSum (Deep (InForm room)) e → AtSum (Deep (InForm room)) (fenced b e)
-  sum_fence true h = inside
-  sum_fence false h = h
-
-  product_fence : (b : Bool) → (b ≡ false → AtProduct (Deep (InForm room)) e) → AtProduct (Deep (InForm room)) (fenced b e)
-  product_fence true h = inside
-  product_fence false h = h refl
-
-  factor_fence : (b : Bool) → (b ≡ false → AtFactor (Deep (InForm room)) e) → AtFactor (Deep (InForm room)) (fenced b e)
-  factor_fence true h = inside
-  factor_fence false h = h refl
-
-  power_fence : (b : Bool) → (b ≡ false → AtPower (Deep (InForm room)) e) → AtPower (Deep (InForm room)) (fenced b e)
-  power_fence true h = inside
-  power_fence false h = h refl
-
-  atom_fence : (b : Bool) → (b ≡ false → Deep (InForm room) e) → Deep (InForm room) (fenced b e)
-  atom_fence true h = inside
-  atom_fence false h = h refl
-
-left_false : (a b : Bool) → (a || b) ≡ false → a ≡ false
-left_false true b e = cc
-left_false false b e = refl
-
--- an atom is in form at each level
-alone : (room n : ℕ) (e : Expr) → AtSum (Deep (InForm room)) e → AtProduct (Deep (InForm room)) e → AtFactor (Deep (InForm room)) e → AtPower (Deep (InForm room)) e → Deep (InForm room) e → InLevel room n e
-alone room n e s p f w a = record { sum = s; product = λ _. p; factor = λ _. f; power = λ _. w; atom = λ _. a }
-
-shift_form : (k : ℤ) → IsShift (canonical_shift k)
-shift_form (pos zero) = tt
-shift_form (pos (suc n)) = digits_are (suc n)
-shift_form (negsuc n) = digits_are (suc n)
-
-leaf_form : (room : ℕ) (ns : Names) (l : Leaf) → IsPrintableLeaf ns l → InLevel room 5 (canonical_leaf ns l)
-leaf_form room ns (number m s) h = let is = text_is_literal m s in alone room 5 _ is is is is is
-leaf_form room ns (parameter q) h = alone room 5 _ (h.0, tt) (h.0, tt) (h.0, tt) (h.0, tt) (h.0, tt)
-leaf_form room ns (variable x k) h = let f = shift_form k in alone room 5 _ (h.0, f) (h.0, f) (h.0, f) (h.0, f) (h.0, f)
-leaf_form room ns (steady_state v) h = absurd h
-
-exponent_form : (room : ℕ) (k : ℤ) → Deep (InForm room) (canonical_exponent k)
+-- what a text of the grammar may write
+unfoldable forms : Forms ⊥ (λ room. Deep (InForm room)) InForm
 unfolding InForm
-exponent_form room (pos n) = text_is_literal n 0
-exponent_form zero (negsuc n) = text_is_literal (suc n) 0
-exponent_form (suc room) (negsuc n) = text_is_literal (suc n) 0
+forms = record {
+  number = λ room l is. is;
+  variable = λ room n s is f. (is, f);
+  paren = λ room e is. is;
+  call = λ room g a b h k. (h, k);
+  choice = λ z. absurd z;
+  flat = λ e is. is;
+  deeper = λ room e is. is;
+}
 
--- an operand, as its operator's right one needs it
-right_tight : (l : ℕ) (b : Term) → (nat_lt (level b) l || begins_minus b) ≡ false → nat_lt (level b) l ≡ false
-right_tight l b e = left_false _ _ e
-
-module _ (room : ℕ) (a b : Term) (x y : Expr) (first : InLevel room (level a) x) (second : InLevel room (level b) y) (in_first : InForm room x) (in_second : InForm room y) where
-  operation_form : (op : Binary) → InLevel room (operator_level op) (operation op (fenced (is_loose op a) x) (fenced (is_loose_right op b) y))
-  operation_form plus =
-      let h = sum_fence room x in_first (nat_lt (level a) 1) first.sum in
-      let g = product_fence room y in_second (nat_lt (level b) 2 || begins_minus b) (λ e. second.product (right_tight 2 b e)) in
-      record { sum = (h, g); product = λ e. cc; factor = λ e. cc; power = λ e. cc; atom = λ e. cc }
-  operation_form minus =
-      let h = sum_fence room x in_first (nat_lt (level a) 1) first.sum in
-      let g = product_fence room y in_second (nat_lt (level b) 2 || begins_minus b) (λ e. second.product (right_tight 2 b e)) in
-      record { sum = (h, g); product = λ e. cc; factor = λ e. cc; power = λ e. cc; atom = λ e. cc }
-  operation_form times =
-      let h = product_fence room x in_first (nat_lt (level a) 2) first.product in
-      let g = factor_fence room y in_second (nat_lt (level b) 3 || begins_minus b) (λ e. second.factor (right_tight 3 b e)) in
-      record { sum = (h, g); product = λ e. (h, g); factor = λ e. cc; power = λ e. cc; atom = λ e. cc }
-  operation_form quotient =
-      let h = product_fence room x in_first (nat_lt (level a) 2) first.product in
-      let g = factor_fence room y in_second (nat_lt (level b) 3 || begins_minus b) (λ e. second.factor (right_tight 3 b e)) in
-      record { sum = (h, g); product = λ e. (h, g); factor = λ e. cc; power = λ e. cc; atom = λ e. cc }
-  operation_form least =
-      let h : InForm room x × InForm room y = (in_first, in_second) in alone room 5 _ h h h h h
-  operation_form greatest =
-      let h : InForm room x × InForm room y = (in_first, in_second) in alone room 5 _ h h h h h
-
-module _ (ns : Names) where
-  -- inside one more "("
-  within : (t : Term) (room : ℕ) → height_of t ≤ room → ((m : ℕ) → height_of t ≤ suc m → InLevel m (level t) (canonical ns t)) → InForm room (canonical ns t)
-  unfolding InForm
-  within t zero low h = absurd (omega (arith, tall t))
-  within t (suc m) low h = (h m low).sum
-
-  form : (t : Term) → IsPrintableTerm ns t → (room : ℕ) → height_of t ≤ suc room → InLevel room (level t) (canonical ns t)
-  unfolding canonical
-  form (leaf l) is room low = leaf_form room ns l is
-  form (negative a) is room low =
-      let h : AtPower (Deep (InForm room)) (fenced (nat_lt (level a) 4) (canonical ns a)) = power_fence room (canonical ns a) (within a room (omega arith) (form a is)) (nat_lt (level a) 4) (form a is room (omega arith)).power in
-      record { sum = h; product = λ e. h; factor = λ e. h; power = λ e. cc; atom = λ e. cc }
-  form (binary op a b) is room low =
-      operation_form room a b (canonical ns a) (canonical ns b) (form a is.0 room (omega arith)) (form b is.1 room (omega arith)) (within a room (omega arith) (form a is.0)) (within b room (omega arith) (form b is.1)) op
-  form (power_of a k) is room low =
-      let h = atom_fence room (canonical ns a) (within a room (omega arith) (form a is)) (nat_lt (level a) 5) (form a is room (omega arith)).atom in
-      let g = exponent_form room k in
-      record { sum = (h, g); product = λ e. (h, g); factor = λ e. (h, g); power = λ e. (h, g); atom = λ e. cc }
-  form (pick a b c d) is room low = absurd is
-
-  pub canonical_form : (room : ℕ) (t : Term) → IsPrintableSide room ns t → room ≤ 500 → IsExpression (canonical ns t)
-  unfolding InForm
-  canonical_form room t is low = (form t is.0 499 (omega (arith, is.1, low))).sum
+pub canonical_form : (ns : Names) (room : ℕ) (t : Term) → IsPrintableSide room ns t → room ≤ 500 → IsExpression (canonical ns t)
+canonical_form ns room t is low =
+    within_height ⊥ (λ room. Deep (InForm room)) InForm forms ns t 500 (writable ⊥ ns t is.0) (omega (arith, is.1, low))
 
 -- ---- statements
 

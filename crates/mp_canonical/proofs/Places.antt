@@ -5,10 +5,11 @@ use Rattle.mp_rational.specs.Fraction.{Fraction}
 use Rattle.mp_statements.specs.declared.kind.NameKind.{NameKind}
 use Rattle.mp_statements.specs.declared.kind.NameKind.TheVariants as kind
 use Rattle.mp_syntax.specs.declared.operator.Sign.{Sign}
-use Rattle.mp_syntax.specs.Syntax.{Named, Expr, Number, Variable, Signed, Binary, Power, Paren, Call, Diff}
+use Rattle.mp_syntax.specs.Syntax.{Named, Expr, Number, Variable, Signed, Binary, Power, Paren, Call, Diff, Pick}
 use Rattle.mp_statements.specs.Statements.{Tag, Equation, Item, Local, Equates, Statement, Declares, Assigns, Model, Notes}
 use Rattle.mp_statements.specs.Parts.{is_kind, is_tag, unquoted, names_in, items_in, items_of, name_of}
 use Rattle.mp_statements.specs.Parts as parts
+use Rattle.mp_semantics.specs.Term.{Term}
 use Rattle.mp_semantics.specs.Value.{result_of}
 use Rattle.mp_semantics.specs.Model as m
 use Rattle.mp_expressions.specs.Script.{bare_name, bare}
@@ -18,15 +19,16 @@ use Rattle.mp_values.specs.Table.{Table, unset, with_value}
 use Rattle.mp_values.specs.Names.{Names, names_of}
 use Rattle.mp_values.specs.Limits.{Folded, ◌>>=◌, answer, exact, exponent_or, whole_of, defined, binary_of}
 use Rattle.mp_values.specs.Values.{with_sign_if, exponent_at, value_by, assigned_by, values_by}
-use Rattle.mp_values.specs.ModelOf.{Locals, term_by, right_by, equation_named, equation_by, items_by, parameters_given, model_with, model_of}
+use Rattle.mp_values.specs.ModelOf.{Locals, meaning_of, term_by, right_by, equation_named, equation_by, items_by, parameters_given, model_with, model_of}
+use Rattle.mp_canonical.proofs.Meanings.{IsMeaning, term_means}
 use Rattle.mp_canonical.proofs.Results.{some_is}
 
 -- ---- the same answer, or none
 
-abbrev Alike : {A : Type 0} → Folded A → Folded A → Type 0
+abbrev pub Alike : {A : Type 0} → Folded A → Folded A → Type 0
 Alike u v = answer u ≡ answer v
 
-next : {A B : Type 0} (u v : Folded A) (f g : A → Folded B) → Alike u v → ((x : A) → Alike (f x) (g x)) → Alike (u >>= f) (v >>= g)
+pub next : {A B : Type 0} (u v : Folded A) (f g : A → Folded B) → Alike u v → ((x : A) → Alike (f x) (g x)) → Alike (u >>= f) (v >>= g)
 next (Ok x) (Ok y) f g e same = same x ∙ ap (λ z. answer (g z)) (some_is x y e)
 next (Ok x) (Err w) f g e same = absurd cc
 next (Err w) (Ok y) f g e same = absurd cc
@@ -59,6 +61,35 @@ value_bare t (Power a at s b) =
 value_bare t (Paren a) = value_bare t a
 value_bare t (Call f a b) = next _ _ _ _ (value_bare t a) (λ x. next _ _ _ _ (value_bare t b) (λ y. refl))
 value_bare t (Diff at a) = next _ _ _ _ (value_bare t a) (λ x. refl)
+value_bare t (Pick a b c d) = refl
+
+-- a choice means what four expressions mean, wherever they stand
+abbrev pub MeansAlikeChoices : (Expr → Folded Term) → Type 0
+MeansAlikeChoices mean =
+    (a b c d e f g h : Expr) → Alike (mean a) (mean e) → Alike (mean b) (mean f) → Alike (mean c) (mean g) → Alike (mean d) (mean h) → Alike (mean (Pick a b c d)) (mean (Pick e f g h))
+
+-- what means the same as these
+alike : {A : Type 0} {u v w z : Folded A} → u ≡ v → w ≡ z → Alike v z → Alike u w
+alike e h same = ap answer e ∙ same ∙ sym (ap answer h)
+
+pub meaning_bare : (named : List ℕ → ℤ → Option Term) (t : Table) (mean : Expr → Folded Term) → IsMeaning named t mean → MeansAlikeChoices mean → (e : Expr) → Alike (mean (bare e)) (mean e)
+unfolding bare
+meaning_bare named t mean m choices (Number literal at) = ap answer (m.number literal 0 ∙ sym (m.number literal at))
+meaning_bare named t mean m choices (Variable name shift) = ap answer (m.variable (bare_name name) shift ∙ sym (m.variable name shift))
+meaning_bare named t mean m choices (Signed s a) =
+    alike (m.signed s (bare a)) (m.signed s a) (next _ _ _ _ (meaning_bare named t mean m choices a) (λ x. refl))
+meaning_bare named t mean m choices (Binary o a at b) =
+    alike (m.operation o (bare a) 0 (bare b)) (m.operation o a at b) (next _ _ _ _ (meaning_bare named t mean m choices a) (λ x. next _ _ _ _ (meaning_bare named t mean m choices b) (λ y. refl)))
+meaning_bare named t mean m choices (Power a at s b) =
+    alike (m.power (bare a) 0 s (bare b)) (m.power a at s b) (next _ _ _ _ (meaning_bare named t mean m choices a) (λ x. next _ _ _ _ (value_bare t b) (λ y. next _ _ _ _ (exponent_alike 0 at s y) (λ k. refl))))
+meaning_bare named t mean m choices (Paren a) =
+    alike (m.paren (bare a)) (m.paren a) (meaning_bare named t mean m choices a)
+meaning_bare named t mean m choices (Call f a b) =
+    alike (m.call f (bare a) (bare b)) (m.call f a b) (next _ _ _ _ (meaning_bare named t mean m choices a) (λ x. next _ _ _ _ (meaning_bare named t mean m choices b) (λ y. refl)))
+meaning_bare named t mean m choices (Diff at a) =
+    alike (m.diff 0 (bare a)) (m.diff at a) (next _ _ _ _ (meaning_bare named t mean m choices a) (λ x. refl))
+meaning_bare named t mean m choices (Pick a b c d) =
+    choices _ _ _ _ _ _ _ _ (meaning_bare named t mean m choices a) (meaning_bare named t mean m choices b) (meaning_bare named t mean m choices c) (meaning_bare named t mean m choices d)
 
 -- the text of a tag does not change
 name-bare : (ts : List Tag) → option_map (λ (t : Tag). unquoted t.text) (find (is_tag (codes "name")) (map bare_tag ts)) ≡ option_map (λ (t : Tag). unquoted t.text) (find (is_tag (codes "name")) ts)
@@ -74,16 +105,8 @@ name-bare (x ∷ xs) = by (is_tag (codes "name") x) (name-bare xs)
 
 module _ (ns : Names) (ls : Locals) (t : Table) where
   term_bare : (e : Expr) → Alike (term_by exact ns ls t (bare e)) (term_by exact ns ls t e)
-  unfolding bare
-  term_bare (Number literal at) = refl
-  term_bare (Variable name shift) = refl
-  term_bare (Signed s a) = next _ _ _ _ (term_bare a) (λ x. refl)
-  term_bare (Binary o a at b) = next _ _ _ _ (term_bare a) (λ x. next _ _ _ _ (term_bare b) (λ y. refl))
-  term_bare (Power a at s b) =
-      next _ _ _ _ (term_bare a) (λ x. next _ _ _ _ (value_bare t b) (λ y. next _ _ _ _ (exponent_alike 0 at s y) (λ k. refl)))
-  term_bare (Paren a) = term_bare a
-  term_bare (Call f a b) = next _ _ _ _ (term_bare a) (λ x. next _ _ _ _ (term_bare b) (λ y. refl))
-  term_bare (Diff at a) = next _ _ _ _ (term_bare a) (λ x. refl)
+  term_bare e =
+      meaning_bare (meaning_of ns ls) t (term_by exact ns ls t) (term_means ns ls t) (λ a b c d e f g h x y z w. refl) e
 
   right_bare : (right : Option Expr) → Alike (right_by exact ns ls t (option_map bare right)) (right_by exact ns ls t right)
   right_bare None = refl

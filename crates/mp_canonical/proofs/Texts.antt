@@ -7,7 +7,7 @@ use Rattle.mp_syntax.specs.declared.operator.Operator.{Operator}
 use Rattle.mp_syntax.specs.declared.operator.Operator.TheVariants as o
 use Rattle.mp_syntax.specs.declared.operator.Function.{Function}
 use Rattle.mp_syntax.specs.declared.operator.Function.TheVariants as f
-use Rattle.mp_syntax.specs.Syntax.{Shift, Named, Expr, Number, Variable, Signed, Binary, Power, Paren, Call, Diff}
+use Rattle.mp_syntax.specs.Syntax.{Shift, Named, Expr, Number, Variable, Signed, Binary, Power, Paren, Call, Diff, Pick}
 use Rattle.mp_statements.specs.declared.kind.NameKind.{NameKind}
 use Rattle.mp_statements.specs.declared.kind.NameKind.TheVariants as kind
 use Rattle.mp_statements.specs.declared.kind.Command.{Command}
@@ -73,6 +73,8 @@ text-spelled (Call g a b) =
     function_is g (the t.Open ∷ (expr_pieces a ++ (the t.Comma ∷ (expr_pieces b ++ (the t.Close ∷ [])))))
     ∙ ap (λ l. function_text g ++ (40 ∷ l)) (two (expr_pieces a) (the t.Comma ∷ (expr_pieces b ++ (the t.Close ∷ []))) (text-spelled a) (ap (λ l. 44 ∷ l) (two (expr_pieces b) (the t.Close ∷ []) (text-spelled b) refl)))
 text-spelled (Diff at a) = ap (λ l. codes "diff" ++ (40 ∷ l)) (two (expr_pieces a) (the t.Close ∷ []) (text-spelled a) refl)
+text-spelled (Pick a b c d) =
+    ap (λ l. codes "pick" ++ (40 ∷ l)) (two (expr_pieces a) _ (text-spelled a) (ap (λ l. 44 ∷ l) (two (expr_pieces b) _ (text-spelled b) (ap (λ l. 44 ∷ l) (two (expr_pieces c) _ (text-spelled c) (ap (λ l. 44 ∷ l) (two (expr_pieces d) (the t.Close ∷ []) (text-spelled d) refl)))))))
 
 -- ---- lines
 

@@ -7,7 +7,7 @@ use Rattle.mp_syntax.specs.declared.operator.Operator.{Operator}
 use Rattle.mp_syntax.specs.declared.operator.Operator.TheVariants as o
 use Rattle.mp_syntax.specs.declared.operator.Function.{Function}
 use Rattle.mp_syntax.specs.declared.operator.Function.TheVariants as f
-use Rattle.mp_syntax.specs.Syntax.{Shift, Expr, Number, Variable, Signed, Binary, Power, Paren, Call, Diff}
+use Rattle.mp_syntax.specs.Syntax.{Shift, Expr, Number, Variable, Signed, Binary, Power, Paren, Call, Diff, Pick}
 use Rattle.mp_statements.specs.declared.kind.NameKind.{NameKind}
 use Rattle.mp_statements.specs.declared.kind.NameKind.TheVariants as kind
 use Rattle.mp_statements.specs.declared.kind.Command.{Command}
@@ -51,6 +51,8 @@ spelled (Power a at s b) = spelled a ++ (94 ∷ (signs_text s ++ spelled b))
 spelled (Paren a) = 40 ∷ (spelled a ++ 41 ∷ [])
 spelled (Call f a b) = function_text f ++ (40 ∷ (spelled a ++ (44 ∷ (spelled b ++ 41 ∷ []))))
 spelled (Diff at a) = codes "diff" ++ (40 ∷ (spelled a ++ 41 ∷ []))
+spelled (Pick a b c d) =
+    codes "pick" ++ (40 ∷ (spelled a ++ (44 ∷ (spelled b ++ (44 ∷ (spelled c ++ (44 ∷ (spelled d ++ 41 ∷ []))))))))
 
 -- the line of an item
 abbrev pub item_text : Item → List ℕ

@@ -94,7 +94,7 @@ abbrev pub canonical_exponent : ℤ → Expr
 canonical_exponent (pos n) = canonical_whole (pos n)
 canonical_exponent (negsuc n) = expr.Paren (canonical_whole (negsuc n))
 
--- the expression of a term where these are the names; no text has `pick` yet
+-- the expression of a term where these are the names
 unfoldable pub canonical : Names → Term → Expr
 canonical ns (leaf l) = canonical_leaf ns l
 canonical ns (negative a) = expr.Signed sign.Minus (fenced (nat_lt (level a) 4) (canonical ns a))
@@ -102,7 +102,7 @@ canonical ns (binary op a b) =
     operation op (fenced (is_loose op a) (canonical ns a)) (fenced (is_loose_right op b) (canonical ns b))
 canonical ns (power_of a k) =
     expr.Power (fenced (nat_lt (level a) 5) (canonical ns a)) 0 None (canonical_exponent k)
-canonical ns (pick a b c d) = expr.Number [] 0
+canonical ns (pick a b c d) = expr.Pick (canonical ns a) (canonical ns b) (canonical ns c) (canonical ns d)
 
 -- "n", or "n/d" in lowest terms
 abbrev pub canonical_value : Fraction → Expr

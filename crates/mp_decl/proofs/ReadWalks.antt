@@ -2,7 +2,7 @@
 use Rattle.std.proofs.Common.{◌≡◌, ℕ, List, [], ◌∷◌, ◌++◌, Bool, true, false, cond, option_map, Option, Some, None, is_some, Ok, Err, refl, sym, ap, subst}
 use Rattle.std.specs.Prelude.{find}
 use Rattle.std.specs.List.{flat_map, AllByRecursion}
-use Rattle.mp_syntax.specs.Syntax.{Expr, Number, Variable, Signed, Binary, Power, Paren, Call, Diff}
+use Rattle.mp_syntax.specs.Syntax.{Expr, Number, Variable, Signed, Binary, Power, Paren, Call, Diff, Pick}
 use Rattle.mp_declared.specs.Points.{Point, Declared, Assigned, Begins, Chosen, Defines, Defined, Reads, Differs, Tagged, Noted, Reader, Constant, reads}
 use Rattle.mp_declared.specs.Declared.{Fault, is_missing, names_read}
 use Rattle.mp_decl.specs.declared.fault.DeclFault.{DeclFault}
@@ -32,6 +32,7 @@ all-reads r (Power a at s b) = all-append (reads r a) (reads Constant b) (all-re
 all-reads r (Paren a) = all-reads r a
 all-reads r (Call f a b) = all-append (reads r a) (reads r b) (all-reads r a) (all-reads r b)
 all-reads r (Diff at a) = (tt, all-reads r a)
+all-reads r (Pick a b c d) = tt
 
 pub all-parts : {X : Type 0} (points : X → List Point) (xs : List X) → ((x : X) → AllByRecursion IsRead (points x)) → AllByRecursion IsRead (flat_map points xs)
 all-parts points [] each = tt

@@ -2,7 +2,7 @@
 use Rattle.std.specs.Prelude.{ℕ, List, [], ◌∷◌, ◌++◌, map, Option}
 use Rattle.std.specs.List.{flat_map}
 use Rattle.mp_statements.specs.declared.kind.NameKind.{NameKind}
-use Rattle.mp_syntax.specs.Syntax.{Shift, Named, Expr, Number, Variable, Signed, Binary, Power, Paren, Call, Diff}
+use Rattle.mp_syntax.specs.Syntax.{Shift, Named, Expr, Number, Variable, Signed, Binary, Power, Paren, Call, Diff, Pick}
 use Rattle.mp_statements.specs.Statements.{Choice, Tag, Equation, Item, Local, Equates, Statement, Declares, Assigns, Model, Notes}
 use Rattle.mp_statements.specs.Sides.{sides}
 
@@ -34,6 +34,7 @@ reads r (Power a at s b) = reads r a ++ reads Constant b
 reads r (Paren a) = reads r a
 reads r (Call f a b) = reads r a ++ reads r b
 reads r (Diff at a) = Differs r at ∷ reads r a
+reads r (Pick a b c d) = []
 
 -- tags, each with those before it
 abbrev pub tag_points : List Tag → List Tag → List Point

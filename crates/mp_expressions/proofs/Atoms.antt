@@ -8,11 +8,11 @@ use Rattle.mp_tokens.specs.declared.terminal.Terminal.TheVariants as t
 use Rattle.mp_tokens.specs.Tokens.{number_length, digits_length, number_kind}
 use Rattle.mp_syntax.specs.declared.operator.Function.TheVariants as function
 use Rattle.mp_syntax.specs.Syntax.{Shift, Expr, Number, Variable, Paren, Call, Diff}
-use Rattle.mp_format.specs.Format.{token, empty}
+use Rattle.mp_format.specs.Format.{Look, token, empty}
 use Rattle.mp_format.specs.Pieces.{Solid, IsLiteral}
 use Rattle.mp_expressions.specs.Script.{bare_name, bare, the, shift_pieces, expr_pieces, expr_script}
 use Rattle.mp_format.specs.Spelling.{value, pieces, Fits, opens, closes, Writing}
-use Rattle.mp_expressions.specs.Productions.{Whole}
+use Rattle.mp_expressions.specs.Productions.{WholeFrom, Whole}
 use Rattle.mp_expressions.specs.Expressions.{shift, shift_part, fenced, closed, inside, pair, literal, flat_atom, atom, factor, times, product, plus, sum}
 use Rattle.mp_expressions.specs.InForm.{AtSum, IsShift, Flat, Deep, number_by, number_tree, flat_tree, shift_tree, pair_tree, closed_tree, inside_tree, atom_tree, sum_tree}
 use Rattle.mp_format.proofs.Writings.{Tells, writing}
@@ -55,7 +55,7 @@ shift_tells None is = record { value = refl; pieces = refl; fits = tt }
 shift_tells (Some s) is =
     record { value = ap (λ v. Some (record { sign = v; digits = s.digits })) (sign_value s.sign); pieces = ap (λ l. the t.Open ∷ ((l ++ (Solid (token k.Whole s.digits) ∷ [])) ++ (the t.Close ∷ []))) (sign_pieces s.sign); fits = (tt, ((sign_fits s.sign, is), tt)) }
 
-atom_tells : (e : Whole) (x : Expr) → Deep e.Fits x → Tells (atom e) (atom_tree e x) (bare x) (expr_pieces x)
+pub atom_tells : {first : List Look} (e : WholeFrom first) (x : Expr) → Deep e.Fits x → Tells (atom e) (atom_tree e x) (bare x) (expr_pieces x)
 unfolding value pieces Fits bare expr_pieces atom closed inside pair atom_tree closed_tree inside_tree pair_tree
 atom_tells e (Number l q) is =
     let h = number_tells l is in record { value = h.value; pieces = h.pieces; fits = h.fits }

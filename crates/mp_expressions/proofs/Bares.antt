@@ -5,9 +5,9 @@ use Rattle.mp_tokens.specs.Tokens.{Tok}
 use Rattle.mp_syntax.specs.declared.operator.Operator.{Operator}
 use Rattle.mp_syntax.specs.declared.operator.Function.TheVariants as function
 use Rattle.mp_syntax.specs.Syntax.{Expr, Number, Variable, Binary, Paren, Call, Diff, Further, with_further, signed}
-use Rattle.mp_format.specs.Format.{Format, opt, Alike}
+use Rattle.mp_format.specs.Format.{Look, Format, opt, Alike}
 use Rattle.mp_expressions.specs.Script.{bare}
-use Rattle.mp_expressions.specs.Productions.{Whole, expr, sign_format, number}
+use Rattle.mp_expressions.specs.Productions.{WholeFrom, expr, sign_format, number}
 use Rattle.mp_expressions.specs.Expressions.{or_plus, shift, shift_part, fenced, closed, inside, pair, literal, flat_atom, atom, raised, power, factor, times_format, times, product, plus_format, plus, sum}
 use Rattle.mp_format.proofs.Bares.{Bares, paired, itself, unplaced, tok_bares, both_bares, choose_bares, opt_bares, many_bares, via_bares, front_bares, back_bares, stands_bares}
 
@@ -46,12 +46,12 @@ unfolding flat_atom bare
 flat_bares =
     choose_bares _ _ bare literal_bares (stands_bares _ _ _ bare (λ u. refl))
 
-pair_bares : (e : Whole) → Bares (expr e) bare → Bares (pair e) (paired bare bare)
+pub pair_bares : {first : List Look} (e : WholeFrom first) → Bares (expr e) bare → Bares (pair e) (paired bare bare)
 unfolding pair
 pair_bares e h =
     both_bares _ _ bare bare (front_bares _ _ bare (back_bares _ _ bare h)) (back_bares _ _ bare h)
 
-pub atom_bares : (e : Whole) → Bares (expr e) bare → Bares (atom e) bare
+pub atom_bares : {first : List Look} (e : WholeFrom first) → Bares (expr e) bare → Bares (atom e) bare
 unfolding atom closed inside bare
 atom_bares e h =
     choose_bares _ _ bare literal_bares (choose_bares _ _ bare (via_bares _ _ (paired unplaced itself) bare (λ p. Variable (record { name = p.0.bytes; at = 0 }) p.1) (λ p. refl) (both_bares _ _ unplaced itself (tok_bares _ _) shift_bares)) (choose_bares _ _ bare (via_bares _ _ bare bare Paren (λ x. refl) (front_bares _ _ bare (back_bares _ _ bare h))) (choose_bares _ _ bare (via_bares _ _ (paired bare bare) bare (λ p. Call function.Min p.0 p.1) (λ p. refl) (front_bares _ _ _ (pair_bares e h))) (choose_bares _ _ bare (via_bares _ _ (paired bare bare) bare (λ p. Call function.Max p.0 p.1) (λ p. refl) (front_bares _ _ _ (pair_bares e h))) (via_bares _ _ (paired unplaced bare) bare (λ p. Diff 0 p.1) (λ p. refl) (both_bares _ _ unplaced bare (tok_bares _ _) (front_bares _ _ bare (back_bares _ _ bare h))))))))

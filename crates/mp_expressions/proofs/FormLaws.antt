@@ -8,8 +8,8 @@ use Rattle.mp_syntax.specs.declared.operator.Operator.{Operator}
 use Rattle.mp_syntax.specs.declared.operator.Operator.TheVariants as operator
 use Rattle.mp_syntax.specs.Syntax.{Shift, Expr, Number, Variable, Signed, Binary, Power, Paren, Call, Diff, Further, with_further}
 use Rattle.mp_format.specs.Pieces.{IsLiteral, AreDigits}
-use Rattle.mp_format.specs.Format.{Every, Format, opt, Made}
-use Rattle.mp_expressions.specs.Productions.{Whole, expr, sign_format}
+use Rattle.mp_format.specs.Format.{Look, Every, Format, opt, Made}
+use Rattle.mp_expressions.specs.Productions.{WholeFrom, expr, sign_format}
 use Rattle.mp_format.specs.Notation.{of, ◌⊗◌}
 use Rattle.mp_format.proofs.Looks.{clash}
 use Rattle.mp_expressions.specs.Expressions.{raised, shift, shift_part, fenced, closed, inside, pair, literal, flat_atom, atom, power, factor, times, product, plus, sum}
@@ -31,7 +31,7 @@ shift_form None m = tt
 shift_form (Some s) (p, e, (o, (q, d, ((v, f, m), c)))) =
     subst (λ (x : Shift). AreDigits x.digits) (f ∙ d ∙ e) (whole_is v.1 m.1.0 m.1.1).1
 
-two : (e : Whole) (I : Expr → Type 0) → ((x : Expr) → Made (expr e) IsToken x → I x) → (z : Expr × Expr) → Made (pair e) IsToken z → I z.0 × I z.1
+two : {first : List Look} (e : WholeFrom first) (I : Expr → Type 0) → ((x : Expr) → Made (expr e) IsToken x → I x) → (z : Expr × Expr) → Made (pair e) IsToken z → I z.0 × I z.1
 unfolding Made pair
 two e I h z ((p, q, (o, (y, r, (m, c)))), (v, s, (n, d))) = (subst I (r ∙ q) (h y.0 m), subst I s (h v.0 n))
 
@@ -47,7 +47,7 @@ is_atom _ = false
 abbrev power_rest : Format Expr → Format (Option (Tok × (Option Sign × Expr)))
 power_rest a = opt (of t.Caret ⊗ opt sign_format ⊗ a)
 
-pub atom_form : (e : Whole) (I : Expr → Type 0) → ((x : Expr) → Made (expr e) IsToken x → I x) → (x : Expr) → Made (atom e) IsToken x → Deep I x
+pub atom_form : {first : List Look} (e : WholeFrom first) (I : Expr → Type 0) → ((x : Expr) → Made (expr e) IsToken x → I x) → (x : Expr) → Made (atom e) IsToken x → Deep I x
 unfolding Made atom closed inside pair
 atom_form e I h x (inl m) = literal_form x (Deep I) (λ l at h. h) m
 atom_form e I h x (inr (inl (p, q, m))) = subst (Deep I) q (name_is p.0 m.0.0 m.0.1, shift_form p.1 m.1)

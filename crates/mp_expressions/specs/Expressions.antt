@@ -1,5 +1,5 @@
 -- Expressions as formats.
-use Rattle.std.specs.Prelude.{ℕ, Option, Some, None}
+use Rattle.std.specs.Prelude.{ℕ, List, Option, Some, None}
 use Rattle.mp_tokens.specs.declared.terminal.Terminal.TheVariants as t
 use Rattle.mp_tokens.specs.Tokens.{Tok}
 use Rattle.mp_syntax.specs.declared.operator.Sign.{Sign}
@@ -8,9 +8,9 @@ use Rattle.mp_syntax.specs.declared.operator.Operator.{Operator}
 use Rattle.mp_syntax.specs.declared.operator.Operator.TheVariants as operator
 use Rattle.mp_syntax.specs.declared.operator.Function.TheVariants as function
 use Rattle.mp_syntax.specs.Syntax.{Shift, Expr, Number, Variable, Power, Paren, Call, Diff, Further, with_further, signed}
-use Rattle.mp_format.specs.Format.{Format, opt, many}
+use Rattle.mp_format.specs.Format.{Look, Format, opt, many}
 use Rattle.mp_format.specs.Notation.{of, ◌⊗◌, ◌▸◌, ◌◂◌, ◌∣◌, ◌⇒◌}
-use Rattle.mp_expressions.specs.Productions.{Whole, expr, named, sign_format, number}
+use Rattle.mp_expressions.specs.Productions.{WholeFrom, expr, named, sign_format, number}
 
 -- a shift without a sign is ahead
 abbrev pub or_plus : Option Sign → Sign
@@ -30,7 +30,7 @@ unfoldable pub flat_atom : Format Expr
 flat_atom = literal ∣ (of t.Name ⇒ λ n. Variable (named n) None)
 
 -- "(" expr "," expr ")"
-unfoldable pub pair : Whole → Format (Expr × Expr)
+unfoldable pub pair : {first : List Look} → WholeFrom first → Format (Expr × Expr)
 pair e = of t.Open ▸ expr e ◂ of t.Comma ⊗ expr e ◂ of t.Close
 
 -- "(" shift ")"
@@ -42,15 +42,15 @@ abbrev pub shift_part : Format (Option Shift)
 shift_part = opt fenced
 
 -- expr ")"
-unfoldable pub closed : Whole → Format Expr
+unfoldable pub closed : {first : List Look} → WholeFrom first → Format Expr
 closed e = expr e ◂ of t.Close
 
 -- "(" expr ")"
-unfoldable pub inside : Whole → Format Expr
+unfoldable pub inside : {first : List Look} → WholeFrom first → Format Expr
 inside e = of t.Open ▸ closed e
 
 -- atom = NUMBER | NAME ["(" shift ")"] | "(" expr ")" | ("min" | "max") "(" expr "," expr ")" | "diff" "(" expr ")"
-unfoldable pub atom : Whole → Format Expr
+unfoldable pub atom : {first : List Look} → WholeFrom first → Format Expr
 atom e =
     literal ∣ (of t.Name ⊗ shift_part ⇒ λ p. Variable (named p.0) p.1) ∣ (of t.Open ▸ closed e ⇒ λ x. Paren x) ∣ (of t.Min ▸ pair e ⇒ λ p. Call function.Min p.0 p.1) ∣ (of t.Max ▸ pair e ⇒ λ p. Call function.Max p.0 p.1) ∣ (of t.Diff ⊗ inside e ⇒ λ p. Diff p.0.at p.1)
 

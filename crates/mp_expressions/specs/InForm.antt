@@ -7,10 +7,10 @@ use Rattle.mp_tokens.specs.Tokens.{number_length, digits_length}
 use Rattle.mp_syntax.specs.declared.operator.Operator.TheVariants as operator
 use Rattle.mp_syntax.specs.declared.operator.Function.TheVariants as function
 use Rattle.mp_syntax.specs.Syntax.{Shift, Expr, Number, Variable, Signed, Binary, Power, Paren, Call, Diff}
-use Rattle.mp_format.specs.Format.{Format}
+use Rattle.mp_format.specs.Format.{Look, Format}
 use Rattle.mp_format.specs.Pieces.{IsName, IsLiteral, AreDigits}
 use Rattle.mp_format.specs.Spelling.{Tree}
-use Rattle.mp_expressions.specs.Productions.{Whole}
+use Rattle.mp_expressions.specs.Productions.{WholeFrom}
 use Rattle.mp_expressions.specs.Expressions.{shift, fenced, closed, inside, pair, flat_atom, atom, factor, times, product, plus, sum, power}
 
 -- over what its atoms are, a power, a factor, a product and a sum
@@ -76,20 +76,20 @@ unfoldable pub shift_tree : Shift → Tree fenced
 unfolding fenced shift
 shift_tree s = (tt, ((Some (sign_tree s.sign), s.digits), tt))
 
-unfoldable pub pair_tree : (e : Whole) → Expr → Expr → Tree (pair e)
+unfoldable pub pair_tree : {first : List Look} (e : WholeFrom first) → Expr → Expr → Tree (pair e)
 unfolding pair
 pair_tree e a b = ((tt, (a, tt)), (b, tt))
 
-unfoldable pub closed_tree : (e : Whole) → Expr → Tree (closed e)
+unfoldable pub closed_tree : {first : List Look} (e : WholeFrom first) → Expr → Tree (closed e)
 unfolding closed
 closed_tree e a = (a, tt)
 
-unfoldable pub inside_tree : (e : Whole) → Expr → Tree (inside e)
+unfoldable pub inside_tree : {first : List Look} (e : WholeFrom first) → Expr → Tree (inside e)
 unfolding inside
 inside_tree e a = (tt, closed_tree e a)
 
 -- an expression that is no atom is none here
-unfoldable pub atom_tree : (e : Whole) → Expr → Tree (atom e)
+unfoldable pub atom_tree : {first : List Look} (e : WholeFrom first) → Expr → Tree (atom e)
 unfolding atom
 atom_tree e (Number literal at) = inl (number_tree literal)
 atom_tree e (Variable n s) = inr (inl (n.name, option_map shift_tree s))

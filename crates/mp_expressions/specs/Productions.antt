@@ -18,13 +18,17 @@ expr_first =
 abbrev pub expr_more : List Look
 expr_more = Of t.Open ∷ Of t.Caret ∷ Of t.Star ∷ Of t.Slash ∷ Of t.Plus ∷ Of t.Minus ∷ []
 
--- how a whole expression reads
+-- how a whole expression reads that begins with one of these
+abbrev pub WholeFrom : List Look → Type 1
+WholeFrom first = Part first expr_more expr_script
+
+-- how a whole expression of a file reads
 abbrev pub Whole : Type 1
-Whole = Part expr_first expr_more expr_script
+Whole = WholeFrom expr_first
 
 -- a place where an expression stands
-abbrev pub expr : Whole → Format Expr
-expr e = part expr_first expr_more expr_script e
+abbrev pub expr : {first : List Look} → WholeFrom first → Format Expr
+expr {first} e = part first expr_more expr_script e
 
 -- the name that a token is
 abbrev pub named : Tok → Named

@@ -9,7 +9,7 @@ use Rattle.mp_syntax.specs.declared.operator.Operator.{Operator}
 use Rattle.mp_syntax.specs.declared.operator.Operator.TheVariants as operator
 use Rattle.mp_syntax.specs.declared.operator.Function.{Function}
 use Rattle.mp_syntax.specs.declared.operator.Function.TheVariants as function
-use Rattle.mp_syntax.specs.Syntax.{Shift, Named, Expr, Number, Variable, Signed, Binary, Power, Paren, Call, Diff}
+use Rattle.mp_syntax.specs.Syntax.{Shift, Named, Expr, Number, Variable, Signed, Binary, Power, Paren, Call, Diff, Pick}
 use Rattle.mp_tokens.specs.declared.terminal.Terminal.{Terminal}
 use Rattle.mp_format.specs.Pieces.{Piece, Solid, Script, Run, AfterName, AfterNumber}
 use Rattle.mp_format.specs.Format.{token, token_of}
@@ -28,6 +28,7 @@ bare (Power a at s b) = Power (bare a) 0 s (bare b)
 bare (Paren a) = Paren (bare a)
 bare (Call f a b) = Call f (bare a) (bare b)
 bare (Diff at a) = Diff 0 (bare a)
+bare (Pick a b c d) = Pick (bare a) (bare b) (bare c) (bare d)
 
 -- a token that is always the same
 abbrev pub the : Terminal → Piece
@@ -64,6 +65,8 @@ expr_pieces (Power a at s b) = expr_pieces a ++ (the t.Caret ∷ (signs s ++ exp
 expr_pieces (Paren a) = the t.Open ∷ (expr_pieces a ++ (the t.Close ∷ []))
 expr_pieces (Call f a b) = the (function_terminal f) ∷ the t.Open ∷ (expr_pieces a ++ (the t.Comma ∷ (expr_pieces b ++ (the t.Close ∷ []))))
 expr_pieces (Diff at a) = the t.Diff ∷ the t.Open ∷ (expr_pieces a ++ (the t.Close ∷ []))
+expr_pieces (Pick a b c d) =
+    the t.Pick ∷ the t.Open ∷ (expr_pieces a ++ (the t.Comma ∷ (expr_pieces b ++ (the t.Comma ∷ (expr_pieces c ++ (the t.Comma ∷ (expr_pieces d ++ (the t.Close ∷ []))))))))
 
 abbrev pub at_both : Run → Bool
 at_both AfterName = true

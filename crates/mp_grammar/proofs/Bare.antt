@@ -1,6 +1,6 @@
 -- What has no places stays as it is where they are taken away.
 use Rattle.std.proofs.Common.{◌≡◌, List, [], ◌∷◌, map, Option, Some, None, option_map, refl, ap, ◌∙◌}
-use Rattle.mp_syntax.specs.Syntax.{Expr, Number, Variable, Signed, Binary, Power, Paren, Call, Diff}
+use Rattle.mp_syntax.specs.Syntax.{Expr, Number, Variable, Signed, Binary, Power, Paren, Call, Diff, Pick}
 use Rattle.mp_statements.specs.Statements.{Tag, Equation, Item, Local, Equates, Statement, Declares, Assigns, Model, Notes}
 use Rattle.mp_format.proofs.Stands.{ap_two}
 use Rattle.mp_expressions.specs.Script.{bare_name, bare}
@@ -18,6 +18,8 @@ bare_bare (Power a at s b) = ap_two (λ x y. Power x 0 s y) (bare_bare a) (bare_
 bare_bare (Paren a) = ap Paren (bare_bare a)
 bare_bare (Call f a b) = ap_two (Call f) (bare_bare a) (bare_bare b)
 bare_bare (Diff at a) = ap (Diff 0) (bare_bare a)
+bare_bare (Pick a b c d) =
+    ap_two (λ (p q : Expr × Expr). Pick p.0 p.1 q.0 q.1) (ap_two (λ x y. (x, y)) (bare_bare a) (bare_bare b)) (ap_two (λ x y. (x, y)) (bare_bare c) (bare_bare d))
 
 each_again : {X : Type 0} (b : X → X) → ((x : X) → b (b x) ≡ b x) → (xs : List X) → map b (map b xs) ≡ map b xs
 each_again b h [] = refl

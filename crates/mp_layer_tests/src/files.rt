@@ -119,6 +119,9 @@ const NAMED: &[u8] =
 const NAMED_PRINTED: &[u8] =
     b"var x y;\ncheck;\nrplot x y;\nmodel(linear,a=-.5,b=c,d='e');\n# g = diff(-x);\n[name='a b',c=\"d\"] y = diff(diff(g)+1);\nend;\n";
 
+// A file whose text is written as it stands.
+const QUOTIENT: &[u8] = b"var x y z;\nmodel;\ny = x^3/(1+z);\nx = 1;\nz = 1;\nend;\n";
+
 #[test]
 fn a_file_is_printed_as_it_was_read(rt: HostRuntime) -> Result<(), Fail> {
     let bytes = printed(rt.alloc(), TEXT)?;
@@ -127,5 +130,7 @@ fn a_file_is_printed_as_it_was_read(rt: HostRuntime) -> Result<(), Fail> {
     assert_eq!(rt; named.as_slice(), NAMED_PRINTED);
     let again = printed(rt.alloc(), NAMED_PRINTED)?;
     assert_eq!(rt; again.as_slice(), NAMED_PRINTED);
+    let quotient = printed(rt.alloc(), QUOTIENT)?;
+    assert_eq!(rt; quotient.as_slice(), QUOTIENT);
     Ok(())
 }

@@ -1,6 +1,6 @@
 -- The text of an operator with its operands.
-use Rattle.std.proofs.Common.{◌≡◌, ℕ, List, [], ◌++◌, append-nil, refl, ap, sym}
-use Rattle.mp_semantics.specs.Term.{Term, binary}
+use Rattle.std.proofs.Common.{◌≡◌, ℕ, List, [], ◌++◌, codes, append-nil, refl, ap, sym}
+use Rattle.mp_semantics.specs.Term.{Term, binary, pick}
 use Rattle.mp_syntax.specs.Syntax.{Expr}
 use Rattle.mp_values.specs.Names.{Names}
 use Rattle.mp_graph.specs.declared.op.BinaryOp.{BinaryOp}
@@ -25,3 +25,7 @@ spelled_operation Max x y = refl
 pub operation_text : (ns : Names) (op : BinaryOp) (a b : Term) → spelled (canonical ns (binary (binary_of op) a b)) ≡ before op ++ (spelled (fenced (is_loose (binary_of op) a) (canonical ns a)) ++ (between op ++ (spelled (fenced (is_loose_right (binary_of op) b) (canonical ns b)) ++ after op)))
 unfolding canonical
 operation_text ns op a b = spelled_operation op (fenced (is_loose (binary_of op) a) (canonical ns a)) (fenced (is_loose_right (binary_of op) b) (canonical ns b))
+
+pub pick_text : (ns : Names) (a b c d : Term) → spelled (canonical ns (pick a b c d)) ≡ codes "pick(" ++ (spelled (canonical ns a) ++ (codes "," ++ (spelled (canonical ns b) ++ (codes "," ++ (spelled (canonical ns c) ++ (codes "," ++ (spelled (canonical ns d) ++ codes ")")))))))
+unfolding canonical spelled
+pick_text ns a b c d = refl

@@ -1,6 +1,6 @@
 // The text of an expression.
-ghost use Rattle.std.specs.Prelude.{◌≡◌, ◌<◌, ◌++◌, length, OnOk, IfOk};
-ghost use Rattle.mp_semantics.specs.Term.{binary};
+ghost use Rattle.std.specs.Prelude.{◌≡◌, ◌<◌, ◌++◌, length, codes, OnOk, IfOk};
+ghost use Rattle.mp_semantics.specs.Term.{binary, pick};
 ghost use Rattle.mp_expr.specs.Shown.{variable_of};
 ghost use Rattle.mp_graph.specs.Op.{IsLawfulLeaf, IsVariable, leaf_of, binary_of};
 ghost use Rattle.mp_graph.specs.Shared.{term_at};
@@ -27,7 +27,7 @@ use mp_names::NameId;
 use std::alloc::Global;
 
 /// The canonical text of the expression of a node, with the fewest parentheses that the grammar's levels allow. No text
-/// has a steady state or `pick` yet. It recurs as deep as the expression is high. The layout is modpath's own.
+/// has a steady state yet. It recurs as deep as the expression is high. The layout is modpath's own.
 pub fn print_tree(alloc: Global, graph: &Graph, id: NodeId) -> Result<Bytes, NoMemory>
     requires { id < length graph.now.terms }
     ensures { IfOk result (λ text. text ≡ spelled (canonical graph.now.names (term_at graph.now.terms id))) }
@@ -159,8 +159,46 @@ pub(crate) fn put_node(out: &mut Bytes, graph: &Graph, id: NodeId) -> Result<(),
             out.add(b"^")?;
             put_exponent(out, k)
         }
-        NodeOp::Pick => Ok(()),
+        NodeOp::Pick => {
+            let kids = node.kids;
+            put_pick(out, graph, kids[0], kids[1], kids[2], kids[3])
+        }
     }
+}
+
+// A choice: its four operands, between commas.
+#[cycle(writer)]
+fn put_pick(
+    out: &mut Bytes,
+    graph: &Graph,
+    a: NodeId,
+    b: NodeId,
+    c: NodeId,
+    d: NodeId,
+) -> Result<(), NoMemory>
+    requires left { a < length graph.now.terms }
+    requires right { b < length graph.now.terms }
+    requires below { c < length graph.now.terms }
+    requires above { d < length graph.now.terms }
+    ensures { OnOk result (out.new ≡ out.old ++ spelled (canonical graph.now.names (pick (term_at graph.now.terms a) (term_at graph.now.terms b) (term_at graph.now.terms c) (term_at graph.now.terms d)))) }
+{
+    out.add(b"pick(")?;
+    put_pair(out, graph, a, b)?;
+    out.add(b",")?;
+    put_pair(out, graph, c, d)?;
+    out.add(b")")
+}
+
+// Two expressions, with a comma between.
+#[cycle(writer)]
+fn put_pair(out: &mut Bytes, graph: &Graph, a: NodeId, b: NodeId) -> Result<(), NoMemory>
+    requires left { a < length graph.now.terms }
+    requires right { b < length graph.now.terms }
+    ensures { OnOk result (out.new ≡ out.old ++ (spelled (canonical graph.now.names (term_at graph.now.terms a)) ++ (codes "," ++ spelled (canonical graph.now.names (term_at graph.now.terms b))))) }
+{
+    put_node(out, graph, a)?;
+    out.add(b",")?;
+    put_node(out, graph, b)
 }
 
 #[tactic(auto, unfolding(mp_canonical::specs::Spelled::spelled), using(crate::proofs::Places::numbered_place))]

@@ -4,7 +4,7 @@ ghost use Rattle.std.specs.Prelude.{◌≡◌, ◌<◌};
 use mp_base::{NoMemory, Outcome, Steps, WordList};
 use mp_outside::{Calls, Listing, MemFiles, MemSink};
 use mp_run::run;
-use mp_vectors::{EXPANDED, REFUSED, TRANSFORMED};
+use mp_vectors::{DERIVED, EXPANDED, REFUSED, TRANSFORMED};
 use std::alloc::Global;
 use std::marker::Brand;
 use std::process::Abort;
@@ -56,7 +56,9 @@ const WORDS: &[(&[&str], u8, &[u8])] = &[
     (&["expand", "m", "N=\""], 2, b"modpath: 2 Words word=3\n"),
     (&["transform", "m", "1=2"], 2, b"modpath: 2 Words word=3\n"),
     (&["expand", "m", "var=1"], 2, b"modpath: 2 Words word=3\n"),
-    (&["derive", "m"], 2, b"modpath: 2 Words word=1\n"),
+    (&["solve", "m"], 2, b"modpath: 2 Words word=1\n"),
+    (&["derive"], 2, b"modpath: 2 Words word=2\n"),
+    (&["derive", "m", "--help"], 2, b"modpath: 2 Words word=3\n"),
     (&["transform", "-m"], 2, b"modpath: 2 Words word=2\n"),
     (
         &["transform", "nofile"],
@@ -175,6 +177,12 @@ const TRANSFORM: Row<'static> = Row {
     ..EMPTY
 };
 
+// The derivatives of an empty text are written, with ample room.
+const DERIVE: Row<'static> = Row {
+    words: &["derive", "m"],
+    ..EMPTY
+};
+
 // The worked runs of a job on the file m.
 fn worked(
     rt: &impl Abort,
@@ -200,6 +208,12 @@ fn texts_are_expanded_transformed_or_refused(rt: HostRuntime) -> Result<(), Fail
     worked(&rt, rt.alloc(), TRANSFORM, TRANSFORMED)?;
     worked(&rt, rt.alloc(), TRANSFORM, REFUSED)?;
     worked(&rt, rt.alloc(), EMPTY, EXPANDED)?;
+    Ok(())
+}
+
+#[test]
+fn derivatives_are_written_or_refused(rt: HostRuntime) -> Result<(), Fail> {
+    worked(&rt, rt.alloc(), DERIVE, DERIVED)?;
     Ok(())
 }
 

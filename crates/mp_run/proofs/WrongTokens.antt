@@ -10,7 +10,7 @@ use Rattle.mp_outside.specs.Outside.{Held, Listing}
 use Rattle.mp_words.specs.Words.{Request, request_of}
 use Rattle.mp_macro.specs.Expansion.{Refusal, Macro, Absent, expands}
 use Rattle.mp_transform.specs.Steps.{Step, and_then}
-use Rattle.mp_transform.specs.Text.{text_gives}
+use Rattle.mp_transform.specs.declared.output.Output.TheVariants as out
 use Rattle.mp_transform.specs.Wrong.{ShowsWrongToken}
 use Rattle.mp_transform.proofs.WrongTokens.{wrong_shown}
 use Rattle.mp_run.specs.Verdict.{answer_of, words_step, expansion_step, job_gives, request_gives, run_gives, verdict}
@@ -25,8 +25,8 @@ refused (Err refusal) at token e =
 
 by_job : (job : Job) (text : List ℕ) (at : ℕ) (token : List ℕ) → job_gives job text ≡ Err (o.Text t.Token at token) → ShowsWrongToken text (o.Text t.Token at token)
 by_job j.Expand text at token e = absurd cc
-by_job j.Transform text at token e = wrong_shown text (o.Text t.Token at token) e
-by_job j.Derive text at token e = absurd cc
+by_job j.Transform text at token e = wrong_shown out.Model text (o.Text t.Token at token) e
+by_job j.Derive text at token e = wrong_shown out.Derivatives text (o.Text t.Token at token) e
 by_job j.Solve text at token e = absurd cc
 by_job j.Occbin text at token e = absurd cc
 by_job j.Check text at token e = absurd cc

@@ -10,7 +10,7 @@ use Rattle.mp_outside.specs.Outside.{Outside, Held, Listing, Rose, CutOff, gaine
 use Rattle.mp_words.specs.Words.{Request, request_of}
 use Rattle.mp_macro.specs.Expansion.{expands}
 use Rattle.mp_transform.specs.Steps.{Step, Refuses}
-use Rattle.mp_transform.specs.Canonical.{IsCanonical}
+use Rattle.mp_transform.specs.Canonical.{IsCanonical, AreDerivatives}
 use Rattle.mp_run.specs.Verdict.{verdict}
 
 -- what a step of the code that reads files refused is what the definition refuses; want of memory and a fault of the files may come at any time
@@ -67,10 +67,11 @@ ShowsSink before now (Refused (o.WriteFault count)) = Rose before.faults now.fau
 ShowsSink before now Done = Unit {0}
 ShowsSink before now _ = now ≡ before
 
--- what a job writes for an expanded text: the text itself, or the canonical text of the model that it means
+-- what a job writes for an expanded text: the text itself, the canonical text of the model that it means, or the records of that model's derivatives
 abbrev pub IsDone : Job → List ℕ → List ℕ → Type 0
 IsDone j.Expand text written = written ≡ text
 IsDone j.Transform text written = IsCanonical text written
+IsDone j.Derive text written = AreDerivatives text written
 IsDone _ text written = ⊥
 
 -- these bytes are what the words ask for, made of the expanded text of the file that they name

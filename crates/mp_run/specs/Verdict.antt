@@ -9,7 +9,7 @@ use Rattle.mp_outside.specs.Outside.{Listing}
 use Rattle.mp_words.specs.Words.{Request, request_of}
 use Rattle.mp_macro.specs.Expansion.{Refusal, Macro, Absent, expands}
 use Rattle.mp_transform.specs.Steps.{Step, and_then}
-use Rattle.mp_transform.specs.Text.{text_gives}
+use Rattle.mp_transform.specs.Text.{text_gives, derivatives_give}
 
 -- an outcome, and the bytes written with it
 pub record Answer : Type 0 where
@@ -40,7 +40,7 @@ unbuilt = Err (o.Words 1)
 abbrev pub job_gives : Job → List ℕ → Step (List ℕ)
 job_gives j.Expand text = Ok text
 job_gives j.Transform text = text_gives text
-job_gives j.Derive text = unbuilt
+job_gives j.Derive text = derivatives_give text
 job_gives j.Solve text = unbuilt
 job_gives j.Occbin text = unbuilt
 job_gives j.Check text = unbuilt

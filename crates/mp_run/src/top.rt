@@ -7,6 +7,7 @@ ghost use Rattle.mp_transform.specs.Steps.{Says, TextShows};
 ghost use Rattle.mp_run.specs.Verdict.{job_gives, run_gives};
 ghost use Rattle.mp_run.specs.Answers.{SaysFiles, ShowsCause, EndsEarly, RefusalShows, AsVerdict, Complete, ShowsSink, IsDone, Writes, WritesResult};
 ghost use Rattle.mp_run.specs.Headline.{WritesSameSolutions};
+ghost use Rattle.mp_run.specs.Slopes.{WritesDerivatives};
 ghost use Rattle.mp_run.specs.Wrong.{TellsWrongToken};
 
 use crate::expanding::expanded;
@@ -34,6 +35,8 @@ pub fn run<F: Files, O: Sink, E: Sink, L: Ledger>(
     ensures wrong_token { TellsWrongToken (F.outside files.old).listing words.now result }
     // A path solves what is written exactly when it solves what was read.
     ensures headline { WritesSameSolutions (F.outside files.old).listing words.now (O.held out.old) (O.held out.new) result }
+    // Written derivatives are those that dual numbers give, one for each place that occurs.
+    ensures derivatives { WritesDerivatives (F.outside files.old).listing words.now (O.held out.old) (O.held out.new) result }
 
     // What is answered in any case.
     ensures wrong_words { (w : ℕ) → request_of words.now ≡ Err w → result ≡ Outcome.Refused (Refusal.Words w) }
@@ -106,8 +109,7 @@ fn done(alloc: Global, job: Job, text: Bytes) -> Result<Bytes, Refusal>
     match job {
         Job::Expand => Ok(text),
         Job::Transform => mp_transform::transformed(alloc, text.as_slice()),
-        Job::Derive | Job::Solve | Job::Occbin | Job::Check | Job::Sample => {
-            Err(Refusal::Words { word: 1 })
-        }
+        Job::Derive => mp_transform::derived(alloc, text.as_slice()),
+        Job::Solve | Job::Occbin | Job::Check | Job::Sample => Err(Refusal::Words { word: 1 }),
     }
 }

@@ -1,6 +1,7 @@
 -- What came before the last step.
-use Rattle.std.proofs.Common.{◌≡◌, ℕ, pos, ◌≤◌, max, List, [], ◌∷◌, map, length, true, false, Bool, Some, None, Option, Result, Ok, Err, refl, sym, ap, ◌∙◌, subst, arith, nat_le, if◌then◌else◌}
+use Rattle.std.proofs.Common.{◌≡◌, ℕ, pos, ◌≤◌, ◌^◌, max, min, cond, List, [], ◌∷◌, map, length, true, false, Bool, Some, None, Option, Result, Ok, Err, refl, sym, ap, ◌∙◌, subst, arith, nat_le, if◌then◌else◌}
 use Rattle.std.specs.List.{AllByRecursion}
+use Rattle.std.specs.Result.{IfOk}
 use Rattle.mp_base.specs.declared.refusal.Refusal.{Refusal}
 use Rattle.mp_base.specs.declared.kinds.DataKind.{DataKind}
 use Rattle.mp_base.specs.declared.kinds.DataKind.TheVariants as d
@@ -16,14 +17,18 @@ use Rattle.mp_values.specs.ModelOf.{model_given, model_of}
 use Rattle.mp_canonical.specs.Files.{canonical_text}
 use Rattle.mp_canonical.specs.Printable.{IsLow, HasFreeNames}
 use Rattle.mp_model.specs.Headline.{KeepsSolutions}
+use Rattle.mp_derivatives.specs.Records.{Derivation, records_text}
+use Rattle.mp_derivatives.specs.Derivatives.{derivatives, operations, derivations, derivatives_text}
+use Rattle.mp_derivatives.specs.Derived.{HaveDerivatives, derived}
+use Rattle.mp_derivatives.specs.Listed.{ListsDerivatives}
 use Rattle.mp_decl.specs.Given.{declared_given}
 use Rattle.mp_local.specs.Local as local
 use Rattle.mp_local.specs.Local.{over_limit, names_refusal, shifts_refusal, height_refusal, size_refusal, sized, local_given}
 use Rattle.mp_local.specs.Sizes.{sides_of, greatest, greatest_height}
 use Rattle.mp_shift.specs.Faults.{name_fault}
-use Rattle.mp_transform.specs.Steps.{Step, and_then}
-use Rattle.mp_transform.specs.Text.{token_step, file_step, model_step, limited, name_step, named_step, sourced, tested, tokens_give, model_of_text, text_gives}
-use Rattle.mp_transform.specs.Canonical.{IsCanonical, HasNames}
+use Rattle.mp_transform.specs.Steps.{Step, and_then, Says}
+use Rattle.mp_transform.specs.Text.{token_step, file_step, model_step, limited, name_step, named_step, sourced, tested, tokens_give, model_of_text, derived_step, text_gives, derivatives_give}
+use Rattle.mp_transform.specs.Canonical.{IsCanonical, AreDerivatives, HasNames}
 
 -- a step that gave something came after one that did
 pub before : {X Y : Type 0} (r : Step X) (next : X → Step Y) (y : Y) → and_then r next ≡ Ok y → (x : X) × (r ≡ Ok x) × (next x ≡ Ok y)
@@ -136,3 +141,40 @@ canonical found means headline text written names e =
       printed = same;
       keeps = subst (λ (w : List ℕ). KeepsSolutions c.file w) (sym same) (headline text c.ts c.file m.0 c.are_tokens reads c.is_local.is_model c.is_local.are_low (subst HasNames m.1 names));
     }
+
+-- a text within the limits is that of all derivatives
+listed_all : (M : Model) (written : List ℕ) → derived_step (derived M) ≡ Ok written → written ≡ derivatives_text M
+listed_all M written e = by (nat_le (operations (derivatives M)) 2000000) e
+  where
+    by : (b : Bool) → derived_step (cond b (Ok (derivations M)) (Err (min (operations (derivatives M)) (10 ^ 37)))) ≡ Ok written → written ≡ derivatives_text M
+    by true h = cc
+    by false h = absurd cc
+
+-- the bytes that a text gives are the records of its derivatives
+pub listed : ((ts : List Tok) (file : List Statement) → file_read ts ≡ Ok file → ReadsFile ts file)
+    → ((file : List Statement) (M : Model) → model_given file ≡ Ok M → model_of file ≡ Some M)
+    → ((text : List ℕ) (ts : List Tok) (file : List Statement) (M : Model) → tokens text ≡ Ok ts → ReadsFile ts file → model_given file ≡ Ok M → AllByRecursion (IsLow 500) M.equations → HasFreeNames M → ListsDerivatives (transformed M) (derivatives_text (transformed M)))
+    → (text written : List ℕ) → HasNames (model_of_text text) → derivatives_give text ≡ Ok written → AreDerivatives text written
+listed found means lists text written names e =
+    let m = before (model_of_text text) (λ M. derived_step (derived (transformed M))) written e in
+    let c = came text m.0 m.1 in
+    let reads = found c.ts c.file c.is_file in
+    let same = listed_all (transformed m.0) written m.2 in
+    record {
+      ts = c.ts;
+      file = c.file;
+      model = m.0;
+      lexed = c.are_tokens;
+      reads = reads;
+      means = means c.file m.0 c.is_local.is_model;
+      written_so = same;
+      lists = subst (λ (w : List ℕ). ListsDerivatives (transformed m.0) w) (sym same) (lists text c.ts c.file m.0 c.are_tokens reads c.is_local.is_model c.is_local.are_low (subst HasNames m.1 names));
+    }
+
+-- the source of a text has derivatives
+source_has : ((file : List Statement) (M : Model) → model_given file ≡ Ok M → HaveDerivatives M) → (end : ℕ) (file : List Statement) (M : Model) → limited end file ≡ Ok M → HaveDerivatives M
+source_has given end file M e = given file M (local_is file M (meant end (local_given file) M e)).is_model
+
+pub source_have : {X : Type 0} (view : X → Model) → ((file : List Statement) (M : Model) → model_given file ≡ Ok M → HaveDerivatives M) → (end : ℕ) (file : List Statement) (r : Result X Refusal) → Says view (limited end file) r → IfOk r (λ x. HaveDerivatives (view x))
+source_have view given end file (Ok x) says = source_has given end file (view x) says
+source_have view given end file (Err e) says = tt

@@ -21,10 +21,13 @@ use Rattle.mp_values.specs.Table.{Table}
 use Rattle.mp_values.specs.Limits.{Stuck, Unvalued, Refused, Folded}
 use Rattle.mp_values.specs.Values.{values_given}
 use Rattle.mp_values.specs.Exponents.{all_exponents}
-use Rattle.mp_canonical.specs.Files.{canonical_text}
+use Rattle.mp_derivatives.specs.Records.{Derivation}
+use Rattle.mp_derivatives.specs.Derived.{derived}
+use Rattle.mp_transform.specs.declared.output.Output.{Output}
+use Rattle.mp_transform.specs.declared.output.Output.TheVariants as out
 use Rattle.mp_decl.specs.Given.{stuck_told, unless_fault, unless_far, unless_stuck, values_told, declared_given}
 use Rattle.mp_transform.specs.Steps.{Step, and_then, Refuses}
-use Rattle.mp_transform.specs.Text.{token_step, wrong_token, file_step, model_step, limited, name_step, named_step, sourced, tested, tokens_give, text_gives}
+use Rattle.mp_transform.specs.Text.{token_step, wrong_token, file_step, model_step, limited, name_step, named_step, sourced, tested, tokens_give, derived_step, output_of, output_gives}
 use Rattle.mp_transform.specs.Wrong.{ShowsWrongToken, IfWrongToken}
 
 -- it refuses no tokens and no grammar
@@ -118,33 +121,42 @@ refused (LongName at) ts e = cc
 refused (OpenComment at) ts e = cc
 refused (OpenText at) ts e = cc
 
-shows_wrong : (text : List ℕ) (outcome : Refusal) → text_gives text ≡ Err outcome → IsToken outcome → ShowsWrongToken text outcome
-shows_wrong text outcome e is = by_tokens (tokens text) refl e
+derived_later : (r : Result (List Derivation) ℕ) → Later (derived_step r)
+derived_later (Ok ds) = tt
+derived_later (Err count) = tt
+
+output_later : (output : Output) (M : Model) → Later (output_of output M)
+output_later out.Model M = tt
+output_later out.Derivatives M = derived_later (derived M)
+
+shows_wrong : (output : Output) (text : List ℕ) (outcome : Refusal) → output_gives output text ≡ Err outcome → IsToken outcome → ShowsWrongToken text outcome
+shows_wrong output text outcome e is = by_tokens (tokens text) refl e
   where
-    by_file : (ts : List Tok) → tokens text ≡ Ok ts → (r : Result (List Statement) (List Tok)) → file_read ts ≡ r → and_then (and_then (file_step (length text) r) (tested (length text) ts)) (λ M. Ok (canonical_text (transformed M))) ≡ Err outcome → ShowsWrongToken text outcome
-    by_file ts lexed (Ok file) read e = absurd (later_never (and_then (tested (length text) ts file) (λ M. Ok (canonical_text (transformed M)))) outcome (and_later (tested (length text) ts file) (λ M. Ok (canonical_text (transformed M))) (tested_later (length text) ts file) (λ M. tt)) e is)
+    by_file : (ts : List Tok) → tokens text ≡ Ok ts → (r : Result (List Statement) (List Tok)) → file_read ts ≡ r → and_then (and_then (file_step (length text) r) (tested (length text) ts)) (λ M. output_of output (transformed M)) ≡ Err outcome → ShowsWrongToken text outcome
+    by_file ts lexed (Ok file) read e = absurd (later_never (and_then (tested (length text) ts file) (λ M. output_of output (transformed M))) outcome (and_later (tested (length text) ts file) (λ M. output_of output (transformed M)) (tested_later (length text) ts file) (λ M. output_later output (transformed M))) e is)
     by_file ts lexed (Err left) read e = stops_at text ts left outcome lexed read (sym (err_is _ outcome e))
 
     -- a refusal of the tokens goes through
-    stays : (fault : lex.Fault) (r : Step (List Tok)) → token_step (Err fault) ≡ r → and_then (and_then r (tokens_give (length text))) (λ M. Ok (canonical_text (transformed M))) ≡ Err outcome → token_step (Err fault) ≡ Err outcome
+    stays : (fault : lex.Fault) (r : Step (List Tok)) → token_step (Err fault) ≡ r → and_then (and_then r (tokens_give (length text))) (λ M. output_of output (transformed M)) ≡ Err outcome → token_step (Err fault) ≡ Err outcome
     stays fault (Ok ts) same e = absurd (refused fault ts same)
     stays fault (Err y) same e = same ∙ ap Err (err_is y outcome e)
 
-    by_tokens : (r : Result (List Tok) lex.Fault) → tokens text ≡ r → and_then (and_then (token_step r) (tokens_give (length text))) (λ M. Ok (canonical_text (transformed M))) ≡ Err outcome → ShowsWrongToken text outcome
+    by_tokens : (r : Result (List Tok) lex.Fault) → tokens text ≡ r → and_then (and_then (token_step r) (tokens_give (length text))) (λ M. output_of output (transformed M)) ≡ Err outcome → ShowsWrongToken text outcome
     by_tokens (Ok ts) lexed e = by_file ts lexed (file_read ts) refl e
     by_tokens (Err fault) lexed e = absurd (lexed_never fault outcome (stays fault (token_step (Err fault)) refl e) is)
 
 -- a refusal of a token tells the first wrong one
-pub wrong_shown : (text : List ℕ) (outcome : Refusal) → text_gives text ≡ Err outcome → IfWrongToken text outcome
-wrong_shown text (o.Text t.Token at token) e = shows_wrong text (o.Text t.Token at token) e tt
-wrong_shown text _ e = tt
+pub wrong_shown : (output : Output) (text : List ℕ) (outcome : Refusal) → output_gives output text ≡ Err outcome → IfWrongToken text outcome
+wrong_shown output text (o.Text t.Token at token) e = shows_wrong output text (o.Text t.Token at token) e tt
+wrong_shown output text _ e = tt
 
 -- the same of a step of the code that refuses what the definition does
-pub refused_shown : (text : List ℕ) (outcome : Refusal) → Refuses (text_gives text) outcome → IfWrongToken text outcome
-refused_shown text (o.Text t.Token at token) e = wrong_shown text (o.Text t.Token at token) e
-refused_shown text _ e = tt
+pub refused_shown : (output : Output) (text : List ℕ) (outcome : Refusal) → Refuses (output_gives output text) outcome → IfWrongToken text outcome
+refused_shown output text (o.Text t.Token at token) e = wrong_shown output text (o.Text t.Token at token) e
+refused_shown output text _ e = tt
 
 -- and so of its result
-pub result_shown : {X : Type 0} (r : Result X Refusal) (text : List ℕ) (outcome : Refusal) → IsErrAnd r (λ e. e ≡ outcome) → Refuses (text_gives text) outcome → MatchResult r (λ x. Unit {0}) (IfWrongToken text)
-result_shown (Ok x) text outcome same e = tt
-result_shown (Err y) text outcome same e = subst (IfWrongToken text) (sym same) (refused_shown text outcome e)
+pub result_shown : {X : Type 0} (output : Output) (r : Result X Refusal) (text : List ℕ) (outcome : Refusal) → IsErrAnd r (λ e. e ≡ outcome) → Refuses (output_gives output text) outcome → MatchResult r (λ x. Unit {0}) (IfWrongToken text)
+result_shown output (Ok x) text outcome same e = tt
+result_shown output (Err y) text outcome same e =
+    subst (IfWrongToken text) (sym same) (refused_shown output text outcome e)

@@ -1,8 +1,9 @@
--- What a text is transformed into: the canonical text of its transformed model, or the first refusal in the order of the steps.
+-- What is written of a text: the canonical text of its transformed model or the records of the derivatives of that model, or the first refusal in the order of the steps.
 use Rattle.std.specs.Prelude.{ℕ, List, [], ◌∷◌, length, take, Option, Some, None, Result, Ok, Err}
 use Rattle.mp_base.specs.declared.refusal.Refusal.{Refusal}
 use Rattle.mp_base.specs.declared.refusal.Refusal.TheVariants as o
 use Rattle.mp_base.specs.declared.kinds.TextKind.TheVariants as t
+use Rattle.mp_base.specs.declared.kinds.DataKind.TheVariants as d
 use Rattle.mp_tokens.specs.Tokens.{Tok, Fault, BadByte, LongName, OpenComment, OpenText, tokens}
 use Rattle.mp_statements.specs.Statements.{Statement}
 use Rattle.mp_grammar.specs.Grammar.{file_read}
@@ -11,10 +12,14 @@ use Rattle.mp_semantics.specs.Model.{Model}
 use Rattle.mp_solutions.specs.Transformed.{transformed}
 use Rattle.mp_values.specs.Limits.{Folded}
 use Rattle.mp_canonical.specs.Files.{canonical_text}
+use Rattle.mp_derivatives.specs.Records.{Derivation, records_text}
+use Rattle.mp_derivatives.specs.Derived.{derived}
 use Rattle.mp_decl.specs.Given.{declared_given, stuck_told}
 use Rattle.mp_local.specs.Local.{local_given}
 use Rattle.mp_shift.specs.Faults.{name_fault}
-use Rattle.mp_transform.specs.Steps.{Step, and_then}
+use Rattle.mp_transform.specs.Steps.{Step, and_then, whole}
+use Rattle.mp_transform.specs.declared.output.Output.{Output}
+use Rattle.mp_transform.specs.declared.output.Output.TheVariants as out
 
 -- the tokens of a text, or its first fault
 abbrev pub token_step : Result (List Tok) Fault → Step (List Tok)
@@ -67,6 +72,25 @@ tokens_give end ts = and_then (file_step end (file_read ts)) (tested end ts)
 abbrev pub model_of_text : List ℕ → Step Model
 model_of_text text = and_then (token_step (tokens text)) (tokens_give (length text))
 
+-- the records of derivatives, or that these have too many operations together
+abbrev pub derived_step : Result (List Derivation) ℕ → Step (List ℕ)
+derived_step (Ok ds) = Ok (records_text ds)
+derived_step (Err count) =
+    Err (o.Data (record { kind = d.DerivativesLarge; at = 0; first = whole count; second = whole 2000000 }))
+
+-- what is written of a model
+abbrev pub output_of : Output → Model → Step (List ℕ)
+output_of out.Model M = Ok (canonical_text M)
+output_of out.Derivatives M = derived_step (derived M)
+
+-- what is written of the transformed model of a text
+abbrev pub output_gives : Output → List ℕ → Step (List ℕ)
+output_gives output text = and_then (model_of_text text) (λ M. output_of output (transformed M))
+
 -- the canonical text of its transformed model
 abbrev pub text_gives : List ℕ → Step (List ℕ)
-text_gives text = and_then (model_of_text text) (λ M. Ok (canonical_text (transformed M)))
+text_gives text = output_gives out.Model text
+
+-- the records of the derivatives of its transformed model
+abbrev pub derivatives_give : List ℕ → Step (List ℕ)
+derivatives_give text = output_gives out.Derivatives text

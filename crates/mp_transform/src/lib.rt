@@ -1,7 +1,8 @@
-//! From a text to the canonical text of its model.
+//! From a text to the canonical text of its transformed model, and to the records of that model's derivatives.
 #![tactic(auto)]
 
+pub mod output;
 pub mod reading;
 pub mod transform;
 
-pub use transform::transformed;
+pub use transform::{derived, transformed};

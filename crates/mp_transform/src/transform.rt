@@ -1,5 +1,5 @@
-// From a text to the canonical text of its transformed model: each step gives what the next one needs, or the outcome that
-// ends the run.
+// From a text to what is written of its transformed model: each step gives what the next one needs, or the outcome that ends
+// the run.
 ghost use Rattle.std.specs.Prelude.{◌≡◌, ◌<◌, ◌≤◌, ◌-◌, ◌^◌, length, None, Ok, IfOk, MatchResult};
 ghost use Rattle.mp_tokens.specs.Literals.{far_literal};
 ghost use Rattle.mp_file.specs.Shown.{file_of};
@@ -9,15 +9,16 @@ ghost use Rattle.mp_values.specs.Names.{names_of};
 ghost use Rattle.mp_values.specs.Exponents.{all_exponents};
 ghost use Rattle.mp_values.specs.Values.{values_given};
 ghost use Rattle.mp_model_data.specs.Shown.{model_data};
-ghost use Rattle.mp_canonical.specs.Files.{canonical_text};
 ghost use Rattle.mp_decl.specs.Given.{declared_given};
 ghost use Rattle.mp_local.specs.Written.{AreWritten};
 ghost use Rattle.mp_shift.specs.Called.{AreOf};
 ghost use Rattle.mp_transform.specs.Steps.{Says, TextShows};
-ghost use Rattle.mp_transform.specs.Text.{limited, named_step, sourced, model_of_text, text_gives};
-ghost use Rattle.mp_transform.specs.Canonical.{IsCanonical, HasNames};
+ghost use Rattle.mp_derivatives.specs.Derived.{HaveDerivatives};
+ghost use Rattle.mp_transform.specs.Text.{limited, named_step, sourced, model_of_text, output_of, output_gives, text_gives, derivatives_give};
+ghost use Rattle.mp_transform.specs.Canonical.{IsCanonical, AreDerivatives, HasNames};
 ghost use Rattle.mp_transform.specs.Wrong.{IfWrongToken};
 
+use crate::output::{Output, written};
 use crate::reading::{lexed, parsed};
 use mp_base::{Bytes, DeclKind, Label, Refusal};
 use mp_decl::{DeclFault, Declared};
@@ -47,14 +48,33 @@ pub fn transformed(alloc: Global, text: &[u8]) -> Result<Bytes, Refusal>
     mp_grammar::grammar_law();
     mp_values::limits_law();
     mp_model::headline_law();
-    let bytes = printed_text(alloc, text)?;
+    let bytes = text_output(alloc, text, Output::Model)?;
     Ok(bytes)
 }
 
-// The canonical text. The names of the auxiliaries that it has are free.
-fn printed_text(alloc: Global, text: &[u8]) -> Result<Bytes, Refusal>
+/// The derivatives of the model that `transformed` writes, as comma-separated records: of the difference of both sides of
+/// each equation, by each variable and shift that occurs in it; or the first refusal: those of `transformed`, and then
+/// that the derivatives have more than 2,000,000 operations together (modpath's own).
+pub fn derived(alloc: Global, text: &[u8]) -> Result<Bytes, Refusal>
     requires { length text.now < 2 ^ 32 - 1 }
-    ensures says { Says (λ bytes. bytes) (text_gives text.now) result }
+    ensures says { Says (λ bytes. bytes) (derivatives_give text.now) result }
+    // The first wrong token is told exactly.
+    ensures wrong_token { MatchResult result (λ _. Unit {0}) (IfWrongToken text.now) }
+    // There is a record for each place that occurs, and its text is worth the dual number's slope wherever that exists.
+    ensures derivatives { IfOk result (λ bytes. AreDerivatives text.now bytes) }
+    ensures shows { MatchResult result (λ _. Unit {0}) TextShows }
+{
+    mp_grammar::grammar_law();
+    mp_values::limits_law();
+    mp_derivatives::listed_law();
+    let bytes = text_output(alloc, text, Output::Derivatives)?;
+    Ok(bytes)
+}
+
+// This output of the transformed model. The names of the auxiliaries that it has are free.
+fn text_output(alloc: Global, text: &[u8], output: Output) -> Result<Bytes, Refusal>
+    requires { length text.now < 2 ^ 32 - 1 }
+    ensures says { Says (λ bytes. bytes) (output_gives output text.now) result }
     ensures names { IfOk result (λ _. HasNames (model_of_text text.now)) }
     ensures shows { MatchResult result (λ _. Unit {0}) TextShows }
 {
@@ -64,7 +84,7 @@ fn printed_text(alloc: Global, text: &[u8]) -> Result<Bytes, Refusal>
     let model = tested(alloc, &tokens, &file, end)?;
     let names = named(alloc, &file, &model)?;
     model.graph().names().distinct(NameKind::Endogenous);
-    shifted(alloc, model, &names)
+    shifted(alloc, model, &names, output)
 }
 
 // The model of a file that declares it, with no number and no limit of models passed. The text ends at `end`.
@@ -76,8 +96,10 @@ fn tested<'t>(
 ) -> Result<Model<'t>, Refusal>
     requires written { far_literal tokens.now ≡ None → AreWritten (items_of (file_of file.now)) }
     ensures says { Says model_data (sourced end tokens.now (file_of file.now)) result }
+    ensures derivatives { IfOk result (λ m. HaveDerivatives (model_data m)) }
     ensures shows { MatchResult result (λ _. Unit {0}) TextShows }
 {
+    mp_derivatives::given_law();
     let declared = declared(alloc, tokens, file, end)?;
     limited(alloc, file, declared, end)
 }
@@ -152,29 +174,21 @@ fn named(alloc: Global, file: &File, model: &Model) -> Result<Auxiliaries, Refus
     }
 }
 
-// The canonical text of the transformed model, whose auxiliaries have these names.
+// This output of the transformed model, whose auxiliaries have these names.
 fn shifted<'t, 'n>(
     alloc: Global,
     model: Model<'t>,
     names: &'n Auxiliaries,
+    output: Output,
 ) -> Result<Bytes, Refusal>
-    requires { AreOf (model_data model) names.now }
-    ensures says { Says (λ bytes. bytes) (Ok (canonical_text (transformed (model_data model.entry)))) result }
+    requires names { AreOf (model_data model) names.now }
+    requires derivatives { HaveDerivatives (model_data model) }
+    ensures says { Says (λ bytes. bytes) (output_of output (transformed (model_data model.entry))) result }
     ensures shows { MatchResult result (λ _. Unit {0}) TextShows }
 {
+    mp_derivatives::given_law();
     match mp_shift::transform(alloc, model, names) {
-        Ok(shifted) => printed(alloc, &shifted),
-        Err(_) => Err(Refusal::NoMemory),
-    }
-}
-
-// The canonical text of the model.
-fn printed(alloc: Global, model: &Model) -> Result<Bytes, Refusal>
-    ensures says { Says (λ bytes. bytes) (Ok (canonical_text (model_data model.now))) result }
-    ensures shows { MatchResult result (λ _. Unit {0}) TextShows }
-{
-    match mp_print_model::print_model(alloc, model) {
-        Ok(bytes) => Ok(bytes),
+        Ok(shifted) => written(alloc, shifted, output),
         Err(_) => Err(Refusal::NoMemory),
     }
 }

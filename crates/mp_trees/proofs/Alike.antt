@@ -2,7 +2,7 @@
 use Rattle.std.proofs.Common.{◌≡◌, ◌<◌, length, get_or, ℕ, ℤ, List, [], ◌∷◌, Option, Some, None, Ok, option_map, refl, sym, ap, subst, ◌∙◌, arith}
 use Rattle.std.specs.Option.{option_or}
 use Rattle.std.specs.List.{AllByRecursion}
-use Rattle.mp_syntax.specs.Syntax.{Expr, Number, Variable, Signed, Binary, Power, Paren, Call, Diff, Further, with_further}
+use Rattle.mp_syntax.specs.Syntax.{Expr, Number, Variable, Signed, Binary, Power, Paren, Call, Diff, Pick, Further, with_further}
 use Rattle.mp_statements.specs.Statements.{Equation}
 use Rattle.mp_statements.specs.Parts.{name_of}
 use Rattle.mp_semantics.specs.Term as sem
@@ -40,6 +40,7 @@ module _ (ns : Names) (ls ks : Locals) (alike : AreAlike ls ks) where
   term_alike (Paren a) js = term_alike a js
   term_alike (Call f a b) js = two a b js (λ x y. Ok (sem.binary (binary_called f) x y.0, y.1)) (term_alike a js) (term_alike b)
   term_alike (Diff at a) js = ap (λ r. r >>= λ x. Ok (difference x.0, x.1)) (term_alike a js)
+  term_alike (Pick a b c d) js = refl
 
   pub differences_alike : (e : Expr) → HasDifferences ns ls e → HasDifferences ns ks e
   differences_alike (Number literal at) h = tt
@@ -50,6 +51,7 @@ module _ (ns : Names) (ls ks : Locals) (alike : AreAlike ls ks) where
   differences_alike (Paren a) h = differences_alike a h
   differences_alike (Call f a b) h = (differences_alike a h.0, differences_alike b h.1)
   differences_alike (Diff at a) h = (differences_alike a h.0, λ is js t e. h.1 is js t (term_alike a is ∙ e))
+  differences_alike (Pick a b c d) h = tt
 
 -- ---- while the graph grows
 module _ (g h : Shared) (ls : List (List ℕ × ℕ)) (kept : Keeps g h) (nodes : AreNodes g.terms ls) where

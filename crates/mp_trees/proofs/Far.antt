@@ -9,7 +9,7 @@ use Rattle.std.proofs.lemmas.List.Elements.{Contains-append_left, Contains-appen
 use Rattle.mp_tokens.specs.Literals.{decimal_of}
 use Rattle.mp_syntax.specs.declared.operator.Sign.{Sign}
 use Rattle.mp_syntax.specs.declared.operator.Sign.TheVariants as sign
-use Rattle.mp_syntax.specs.Syntax.{Named, Shift, Expr, Number, Variable, Signed, Binary, Power, Paren, Call, Diff}
+use Rattle.mp_syntax.specs.Syntax.{Named, Shift, Expr, Number, Variable, Signed, Binary, Power, Paren, Call, Diff, Pick}
 use Rattle.mp_statements.specs.Statements.{Item, Local, Equates}
 use Rattle.mp_statements.specs.Sides.{right_side}
 use Rattle.mp_semantics.specs.Term.{Leaf, number, steady_state, variable, endogenous, exogenous, parameter, Term, leaf, negative, binary, power_of, pick}
@@ -292,6 +292,7 @@ module _ (ns : Names) (ks : List (List ℕ × List ℤ)) (ls : Locals) (linked :
       let h = reached (suc d) a js x.0.1 x.0.0 x.1 in
       given (Reaches shifts (readings (suc d) a) d) (difference x.0.0) t x.0.1 is x.2
       (all_leaves (Reaches shifts (readings (suc d) a) (suc d)) _ (sooner (readings (suc d) a) d) x.0.0 h, other_leaves (Reaches shifts (readings (suc d) a) (suc d)) _ earlier_leaf (earlier_reaches (readings (suc d) a) d) x.0.0 h)
+  reached d (Pick a b c f) js is t e = let z : ⊥ = cc in absurd z
 
   -- ---- names that are not far
   one_back : (k : ℤ) → unsigned_abs (k -ℤ pos 1) ≤ 24 → negsuc 22 ≤ℤ k
@@ -318,6 +319,7 @@ module _ (ns : Names) (ks : List (List ℕ × List ℤ)) (ls : Locals) (linked :
       (differences d a (near_left shifts (readings d a) (readings d b) near), differences d b (near_right shifts (readings d a) (readings d b) near))
   differences d (Diff at a) near =
       (differences (suc d) a near, λ js is t e. all_leaves (Reaches shifts (readings (suc d) a) (suc d)) IsNearLeaf (near_leaf (readings (suc d) a) d near) t (reached (suc d) a js is t e))
+  differences d (Pick a b c f) near = tt
 
   -- a local has the shifts that come from its expression
   own_shift : (rs : List Reading) (l : Leaf) → Reaches shifts rs 0 l → HasShift (flat_map (shifts_from shifts) rs) l

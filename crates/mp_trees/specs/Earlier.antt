@@ -1,6 +1,6 @@
 -- Expressions whose differences can be taken: no variable of the period before is more than 24 periods back (modpath's own).
 use Rattle.std.specs.Prelude.{◌≡◌, ℤ, negsuc, ◌≤ℤ◌, List, [], ◌∷◌, Ok}
-use Rattle.mp_syntax.specs.Syntax.{Expr, Number, Variable, Signed, Binary, Power, Paren, Call, Diff}
+use Rattle.mp_syntax.specs.Syntax.{Expr, Number, Variable, Signed, Binary, Power, Paren, Call, Diff, Pick}
 use Rattle.mp_statements.specs.Statements.{Equation, Item, Local, Equates}
 use Rattle.mp_statements.specs.Sides.{right_side}
 use Rattle.mp_semantics.specs.Term.{Leaf, variable, Term, leaf, negative, binary, power_of, pick}
@@ -36,6 +36,7 @@ HasDifferences ns ls (Paren a) = HasDifferences ns ls a
 HasDifferences ns ls (Call f a b) = HasDifferences ns ls a × HasDifferences ns ls b
 HasDifferences ns ls (Diff at a) =
     HasDifferences ns ls a × ((ks js : List ℤ) (t : Term) → term_from ns ls a ks ≡ Ok (t, js) → HasEarlier t)
+HasDifferences ns ls (Pick a b c d) = Unit {0}
 
 -- so it is with the sides of an equation
 abbrev pub SidesHaveDifferences : Names → Locals → Equation → Type 0

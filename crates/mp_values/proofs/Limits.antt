@@ -9,7 +9,7 @@ use Rattle.mp_tokens.specs.Literals.{Decimal, decimal_of, is_in_range}
 use Rattle.mp_syntax.specs.declared.operator.Sign.{Sign}
 use Rattle.mp_syntax.specs.declared.operator.Operator.{Operator}
 use Rattle.mp_syntax.specs.declared.operator.Operator.TheVariants as op
-use Rattle.mp_syntax.specs.Syntax.{Expr, Number, Variable, Signed, Binary, Power, Paren, Call, Diff}
+use Rattle.mp_syntax.specs.Syntax.{Expr, Number, Variable, Signed, Binary, Power, Paren, Call, Diff, Pick}
 use Rattle.mp_statements.specs.Statements.{Equation, Item, Local, Equates, Statement, Declares, Assigns, Model, Notes}
 use Rattle.mp_statements.specs.Parts.{items_of}
 use Rattle.mp_semantics.specs.Model as m
@@ -84,6 +84,7 @@ value_below by t (Power a at s b) = on _ _ _ _ (value_below by t a) (λ x. on _ 
 value_below by t (Paren a) = value_below by t a
 value_below by t (Call f a b) = on _ _ _ _ (value_below by t a) (λ x. on _ _ _ _ (value_below by t b) (λ y. same _))
 value_below by t (Diff at a) = on _ _ _ _ (value_below by t a) (λ x. same _)
+value_below by t (Pick a b c d) = same _
 
 pub assigned_below : Answers → (t : Table) (file : List Statement) → Below (assigned_by limited t file) (assigned_by exact t file)
 assigned_below by t [] = same _
@@ -104,6 +105,7 @@ term_below by ns ls t (Power a at s b) = on _ _ _ _ (term_below by ns ls t a) (�
 term_below by ns ls t (Paren a) = term_below by ns ls t a
 term_below by ns ls t (Call f a b) = on _ _ _ _ (term_below by ns ls t a) (λ x. on _ _ _ _ (term_below by ns ls t b) (λ y. same _))
 term_below by ns ls t (Diff at a) = on _ _ _ _ (term_below by ns ls t a) (λ x. same _)
+term_below by ns ls t (Pick a b c d) = same _
 
 right_below : Answers → (ns : Names) (ls : Locals) (t : Table) (right : Option Expr) → Below (right_by limited ns ls t right) (right_by exact ns ls t right)
 right_below by ns ls t None = same _

@@ -6,11 +6,11 @@ use Rattle.mp_syntax.specs.declared.operator.Sign.{Sign}
 use Rattle.mp_syntax.specs.declared.operator.Sign.TheVariants as sign
 use Rattle.mp_syntax.specs.declared.operator.Function.{Function}
 use Rattle.mp_syntax.specs.declared.operator.Function.TheVariants as function
-use Rattle.mp_syntax.specs.Syntax.{Expr, Number, Variable, Signed, Binary, Power, Paren, Call, Diff}
+use Rattle.mp_syntax.specs.Syntax.{Expr, Number, Variable, Signed, Binary, Power, Paren, Call, Diff, Pick}
 use Rattle.mp_statements.specs.Statements.{Statement, Declares, Assigns, Model, Notes}
 use Rattle.mp_values.specs.Table.{Table, unset, value_in, with_value}
 use Rattle.mp_values.specs.Names.{names_of}
-use Rattle.mp_values.specs.Limits.{Folded, ◌>>=◌, known, Limits, limited}
+use Rattle.mp_values.specs.Limits.{Folded, ◌>>=◌, known, no_choice, Limits, limited}
 
 -- the number m / 10^s
 abbrev pub decimal_value : Decimal → Fraction
@@ -45,6 +45,7 @@ value_by L t (Power a at s b) =
 value_by L t (Paren a) = value_by L t a
 value_by L t (Call f a b) = value_by L t a >>= λ x. value_by L t b >>= λ y. Ok (chosen f x y)
 value_by L t (Diff at a) = value_by L t a >>= λ x. Ok (whole (pos 0))
+value_by L t (Pick a b c d) = no_choice
 
 -- the parameters after these statements, in text order: an assignment gives its parameter the value that its expression has then
 abbrev pub assigned_by : Limits → Table → List Statement → Folded Table

@@ -1,5 +1,5 @@
-//! Worked runs as constants for tests: the text of a file, and what `transform` or `expand` makes of it, worked out by hand
-//! from the formats.
+//! Worked runs as constants for tests: the text of a file, and what `transform`, `derive` or `expand` makes of it, worked
+//! out by hand from the formats.
 #![tactic(auto)]
 
 /// A text, and the status, the output and the fault line that a job gives where the file `m` holds it.
@@ -550,6 +550,94 @@ pub const REFUSED: &[Row] = &[
         status: 6,
         out: b"",
         err: b"modpath: 6 Declared kind=NameLong name=AUX_LEAD_xxxxxxxxxxxxxxxxxxxxxxxxxxxxxxxxxxxxxxxxxxxxxxxxxxxxxxxxxxxxxxxxxxxxxxxxxxxxxxxxxxxxxxxxxxxxxxxxxxxxxxxxxxxxxxxxxxxxxx_ at=6\n",
+    },
+    Row {
+        text: b"var x; model; x = pick(x,1,2,3); end;",
+        status: 5,
+        out: b"",
+        err: b"modpath: 5 Text kind=Token at=18 token=pick\n",
+    },
+];
+
+/// What `derive m` gives.
+pub const DERIVED: &[Row] = &[
+    Row {
+        text: b"var x y z; model; y = x^3/(1+z); x = 1; z = 1; end;",
+        status: 0,
+        out: b"equation,variable,shift,derivative\n1,x,0,-(3*x^2/(1+z))\n1,y,0,1\n1,z,0,x^3/(1+z)^2\n2,x,0,1\n3,z,0,1\n",
+        err: b"",
+    },
+    Row {
+        text: b"var y; varexo x; model; y = min(x, 2); end;",
+        status: 0,
+        out: b"equation,variable,shift,derivative\n1,y,0,1\n1,x,0,\"-pick(x,2,1,0)\"\n",
+        err: b"",
+    },
+    Row {
+        text: b"var y; varexo x; model; y = max(x, 2); end;",
+        status: 0,
+        out: b"equation,variable,shift,derivative\n1,y,0,1\n1,x,0,\"-pick(2,x,1,0)\"\n",
+        err: b"",
+    },
+    Row {
+        text: b"var x; model; x = 2*x(-1); end;",
+        status: 0,
+        out: b"equation,variable,shift,derivative\n1,x,-1,-2\n1,x,0,1\n",
+        err: b"",
+    },
+    Row {
+        text: b"var x; model; x = x(+3); end;",
+        status: 0,
+        out: b"equation,variable,shift,derivative\n1,x,0,1\n1,AUX_LEAD_x_2,1,-1\n2,x,1,-1\n2,AUX_LEAD_x_1,0,1\n3,AUX_LEAD_x_1,1,-1\n3,AUX_LEAD_x_2,0,1\n",
+        err: b"",
+    },
+    Row {
+        text: b"var x; model; x^0 + x^1 = x^(-1); end;",
+        status: 0,
+        out: b"equation,variable,shift,derivative\n1,x,0,1-(-1*x^(-2))\n",
+        err: b"",
+    },
+    Row {
+        text: b"var x y; model; x*y = 1; y = 1; end;",
+        status: 0,
+        out: b"equation,variable,shift,derivative\n1,x,0,y\n1,y,0,x\n2,y,0,1\n",
+        err: b"",
+    },
+    Row {
+        text: b"var x; parameters a; a = 2; model; # g = a*x; [name='n'] diff(g) = 0; end;",
+        status: 0,
+        out: b"equation,variable,shift,derivative\n1,x,-1,-a\n1,x,0,a\n",
+        err: b"",
+    },
+    Row {
+        text: b"var x; model; 1 = 2; end;",
+        status: 0,
+        out: b"equation,variable,shift,derivative\n",
+        err: b"",
+    },
+    Row {
+        text: b"var x; model; min(x, x) = 0; end;",
+        status: 0,
+        out: b"equation,variable,shift,derivative\n1,x,0,\"pick(x,x,1,1)\"\n",
+        err: b"",
+    },
+    Row {
+        text: b"var x AUX_LAG_x_1; model; x = x(-2); AUX_LAG_x_1 = 1; end;",
+        status: 6,
+        out: b"",
+        err: b"modpath: 6 Declared kind=NameTaken name=AUX_LAG_x_1 at=6\n",
+    },
+    Row {
+        text: b"var x; model; # b1 = x*x; # b2 = b1*b1; # b3 = b2*b2; # b4 = b3*b3; # b5 = b4*b4; # b6 = b5*b5; # b7 = b6*b6; # b8 = b7*b7; # b9 = b8*b8; # b10 = b9*b9; # b11 = b10*b10; # b12 = b11*b11; # b13 = b12*b12; # b14 = b13*b13; # b15 = b14*b14; # b16 = b15*b15; # b17 = b16*b16; b17 = 0; end;",
+        status: 7,
+        out: b"",
+        err: b"modpath: 7 Data kind=DerivativesLarge at=0 first=2228223 second=2000000\n",
+    },
+    Row {
+        text: b"var x; model; x = @; end;",
+        status: 5,
+        out: b"",
+        err: b"modpath: 5 Text kind=BadByte at=18 token=\n",
     },
 ];
 

@@ -1,1 +1,3 @@
 pub mod Defines
+pub mod Requests
+pub mod Walk

@@ -6,7 +6,17 @@ use Rattle.mp_words.specs.declared.words.WordFault.TheVariants as f
 use Rattle.mp_words.specs.Words.{Request}
 
 abbrev pub request_seen : Words → Request
-request_seen w = record { job = w.job; file = w.file; defines = w.defines }
+request_seen w = record {
+  job = w.job;
+  file = w.file;
+  path = w.path;
+  seed = w.seed;
+  tolerance = w.tolerance;
+  pivot = w.pivot;
+  steps = w.steps;
+  guesses = w.guesses;
+  defines = w.defines;
+}
 
 -- refused for the same word, unless there was no memory
 abbrev pub Refuses : {X : Type 0} → WordFault → Result X ℕ → Type 0

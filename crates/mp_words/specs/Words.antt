@@ -10,10 +10,22 @@ use Rattle.mp_tokens.specs.Terminals.{is_reserved}
 use Rattle.mp_mvalue.specs.declared.value.Value.{Value, Whole, Truth, Text}
 use Rattle.mp_mvalue.specs.declared.defines.Define.{Define}
 
--- what the words ask for: a job, the name of a file, and macro names with values
+-- what the words ask for: a job, the name of a file, macro names with values, and settings of numerical work in units of 10^-12
 pub record Request : Type 0 where
   pub job : Job
   pub file : List ℕ
+  -- the file of the path that is checked
+  pub path : Option (List ℕ)
+  -- the number from which a sample is made
+  pub seed : ℕ
+  -- residual bounds above so many units are refused; where there is none, the text's number or its default stands
+  pub tolerance : Option ℤ
+  -- in elimination a pivot below so many units is refused
+  pub pivot : ℤ
+  -- so many Newton steps may be taken; where there is none, the text's number or its default stands
+  pub steps : Option ℕ
+  -- so many guesses of active pairs or regimes may be tried
+  pub guesses : ℕ
   pub defines : List Define
 
 -- a file's name has 1 to 128 bytes and no '-' at the front
@@ -95,9 +107,23 @@ defines_of at room [] = Ok []
 defines_of at zero (w ∷ ws) = Err at
 defines_of at (suc room) (w ∷ ws) = define_or at (define_of w) (defines_of (at + 1) room ws)
 
+-- a request in which no word gives a setting
+abbrev pub default_request : Job → List ℕ → List Define → Request
+default_request job file defines = record {
+  job = job;
+  file = file;
+  path = None;
+  seed = 0;
+  tolerance = None;
+  pivot = pos 1000;
+  steps = None;
+  guesses = 100;
+  defines = defines;
+}
+
 -- the job and the file, with these definitions
 abbrev pub request : Job → List ℕ → Result (List Define) ℕ → Result Request ℕ
-request job file (Ok ds) = Ok (record { job = job; file = file; defines = ds })
+request job file (Ok ds) = Ok (default_request job file ds)
 request job file (Err at) = Err at
 
 -- after the job: a file's name and at most 1,000 definitions
@@ -109,18 +135,19 @@ file_then job (w ∷ ws) = if is_file w then request job w (defines_of 3 1000 ws
 abbrev pub IsBuilt : Job → Type 0
 IsBuilt j.Expand = Unit {0}
 IsBuilt j.Transform = Unit {0}
+IsBuilt j.Derive = Unit {0}
 IsBuilt _ = ⊥
 
 -- the word of a job
 abbrev pub job_of : List ℕ → Option Job
 job_of word =
-    if bytes_eq word (codes "expand") then Some j.Expand else if bytes_eq word (codes "transform") then Some j.Transform else None
+    if bytes_eq word (codes "expand") then Some j.Expand else if bytes_eq word (codes "transform") then Some j.Transform else if bytes_eq word (codes "derive") then Some j.Derive else None
 
 abbrev pub job_then : Option Job → List (List ℕ) → Result Request ℕ
 job_then None ws = Err 1
 job_then (Some job) ws = file_then job ws
 
--- what the words ask for: ("expand" | "transform") FILE {NAME=VALUE}; or the number, from 1, of the first word with which no such list begins
+-- what the words ask for: ("expand" | "transform" | "derive") FILE {NAME=VALUE}; or the number, from 1, of the first word with which no such list begins
 abbrev pub request_of : List (List ℕ) → Result Request ℕ
 request_of [] = Err 1
 request_of (w ∷ ws) = job_then (job_of w) ws

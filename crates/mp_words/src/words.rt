@@ -1,9 +1,11 @@
 // The words as a whole.
-ghost use Rattle.std.specs.Prelude.{◌≡◌, ◌<◌, ◌≤◌, ℕ, length, drop, true, None, Ok, Err, IfOk, IfSome};
-ghost use Rattle.mp_words.specs.Words.{is_file, IsBuilt, job_of, defines_of, file_then, request_of};
+ghost use Rattle.std.specs.Prelude.{◌≡◌, ◌≤◌, ℕ, length, drop, None, Ok, Err, IfOk};
+ghost use Rattle.clap.specs.Walk.{texts};
+ghost use Rattle.mp_words.specs.Words.{is_file, IsBuilt, job_of, defines_of, default_request, request_of};
 ghost use Rattle.mp_words.specs.Shown.{request_seen, Reads, wrong_of};
 
-use crate::define::{copy_of, define_of, is_define};
+use crate::command::{matches_of, request_in};
+use crate::define::is_define;
 use mp_base::{Bytes, Job, NoMemory, WordList};
 use mp_mvalue::Defines;
 use std::alloc::{AllocError, Global};
@@ -12,12 +14,53 @@ use thiserror::Error;
 /// How many definitions may stand.
 const MOST: u32 = 1_000;
 
-/// What the words ask for: a job, the name of a file, and macro names with values.
+/// The pivot threshold where the words give none, in units.
+const DEFAULT_PIVOT: i128 = 1_000;
+
+/// How many guesses may be tried where the words give no number.
+const DEFAULT_GUESSES: u32 = 100;
+
+/// What the words ask for: a job, the name of a file, macro names with values, and settings of numerical work (modpath's
+/// own). A unit is 10^-12.
 #[derive(Drop)]
 pub struct Words {
+    /// What is to be done.
     pub job: Job,
+    /// The name of the file that it is done on, 1 to 128 bytes.
     pub file: Bytes,
+    /// The name of the file with the path that is to be checked.
+    pub path: Option<Bytes>,
+    /// The number from which a sample is made.
+    pub seed: u32,
+    /// In units: residual bounds above it are refused. With None it is the text's, or its default.
+    pub tolerance: Option<i128>,
+    /// In units: elimination refuses a pivot of smaller magnitude.
+    pub pivot: i128,
+    /// How many Newton steps may be taken. With None it is the text's number, or its default.
+    pub steps: Option<u32>,
+    /// How many guesses of active pairs or regimes may be tried.
+    pub guesses: u32,
+    /// Macro names with values, in the order of the words.
     pub defines: Defines,
+}
+
+impl Words {
+    // A request in which no word gives a setting.
+    pub(crate) fn with_defaults(job: Job, file: Bytes, defines: Defines) -> Words
+        ensures { request_seen result ≡ default_request job file defines }
+    {
+        Words {
+            job,
+            file,
+            path: None,
+            seed: 0,
+            tolerance: None,
+            pivot: DEFAULT_PIVOT,
+            steps: None,
+            guesses: DEFAULT_GUESSES,
+            defines,
+        }
+    }
 }
 
 /// Why the words ask for nothing: the number of the first one with which no accepted list begins, from 1, or one more
@@ -41,18 +84,7 @@ impl From<NoMemory> for WordFault {
     }
 }
 
-impl From<AllocError> for WordFault {
-    ghost use Rattle.std.specs.Prelude.{◌≡◌};
-    ghost use Rattle.mp_words.specs.declared.words.WordFault.TheVariants.{NoMemory};
-
-    ghost from_gives = { λ _ e. e ≡ NoMemory };
-
-    fn from(_: AllocError) -> Self {
-        WordFault::NoMemory
-    }
-}
-
-/// What the words ask for: `expand FILE {NAME=VALUE}` or `transform FILE {NAME=VALUE}`, with at most 1,000 definitions
+/// What the words ask for: `expand`, `transform` or `derive`, then `FILE {NAME=VALUE}`, with at most 1,000 definitions
 /// (modpath's own). The words are tested before they are read, so a wrong word is named whether or not there is memory.
 pub fn read_words(alloc: Global, words: &WordList) -> Result<Words, WordFault>
     ensures reads { Reads request_seen result (request_of words.now) }
@@ -60,36 +92,23 @@ pub fn read_words(alloc: Global, words: &WordList) -> Result<Words, WordFault>
     ensures built { IfOk result (λ w. IsBuilt w.job) }
     ensures short { IfOk result (λ w. length w.file ≤ 128) }
 {
-    if words.count() < 1 {
-        return Err(WordFault::Refused { word: 1 });
-    }
-    let Some(job) = job_of(words.word(1).as_bytes()) else {
-        return Err(WordFault::Refused { word: 1 });
-    };
-    request(alloc, job, words)
-}
-
-// The file and the definitions after the word of a job.
-fn request(alloc: Global, job: Job, words: &WordList) -> Result<Words, WordFault>
-    requires some { 0 < length words.now }
-    requires built { IsBuilt job }
-    ensures reads { Reads request_seen result (file_then job (drop 1 words.now)) }
-    ensures refused { (w : ℕ) → file_then job (drop 1 words.now) ≡ Err w → result ≡ Err (WordFault.Refused w) }
-    ensures built { IfOk result (λ w. IsBuilt w.job) }
-    ensures short { IfOk result (λ w. length w.file ≤ 128) }
-{
-    if words.count() < 2 || !is_file(words.word(2).as_bytes()) {
-        return Err(WordFault::Refused { word: 2 });
-    }
-    if let Some(word) = wrong_define(words) {
+    if let Some(word) = wrong_word(words) {
         return Err(WordFault::Refused { word });
     }
-    let defines = defines_of(alloc, words)?;
-    Ok(Words {
-        job,
-        file: copy_of(alloc, words.word(2).as_bytes())?,
-        defines,
-    })
+    Ok(request(alloc, words)?)
+}
+
+// The number of the first word with which no accepted list begins.
+fn wrong_word(words: &WordList) -> Option<u32>
+    ensures { result ≡ wrong_of (request_of words.now) }
+{
+    if words.count() < 1 || job_of(words.word(1).as_bytes()).is_none() {
+        return Some(1);
+    }
+    if words.count() < 2 || !is_file(words.word(2).as_bytes()) {
+        return Some(2);
+    }
+    wrong_define(words)
 }
 
 // The number of the first word from the third on that is no definition, or one too many.
@@ -106,23 +125,33 @@ fn wrong_define(words: &WordList) -> Option<u32>
     None
 }
 
-// The definitions that the words from the third on are, where none of them is wrong.
-fn defines_of(alloc: Global, words: &WordList) -> Result<Defines, NoMemory>
-    requires two { 2 ≤ length words.now }
-    requires right { wrong_of (defines_of 3 1000 (drop 2 words.now)) ≡ None }
-    ensures { IfOk result (λ ds. defines_of 3 1000 (drop 2 words.now) ≡ Ok ds) }
+// What words ask for of which none is wrong.
+fn request(alloc: Global, words: &WordList) -> Result<Words, NoMemory>
+    requires { wrong_of (request_of words.now) ≡ None }
+    ensures { IfOk result (λ w. request_of words.now ≡ Ok (request_seen w)) }
 {
-    let mut defines = Defines::new(alloc);
-    for before in 2..words.count() {
-        defines.push(define_of(alloc, words.word(before + 1).as_bytes())?)?;
+    let texts = texts_of(alloc, words)?;
+    match matches_of(alloc, texts.as_slice()) {
+        Ok(matches) => request_in(alloc, &matches),
+        // Right words fail for want of memory alone.
+        Err(_) => Err(NoMemory),
     }
-    Ok(defines)
+}
+
+// The words as texts.
+fn texts_of<'a>(alloc: Global, words: &'a WordList) -> Result<Vec<&'a str>, AllocError>
+    ensures { IfOk result (λ ts. texts ts.items ≡ words.now) }
+{
+    let mut texts = Vec::new(alloc);
+    for before in 0..words.count() {
+        texts.push(words.word(before + 1))?;
+    }
+    Ok(texts)
 }
 
 // The job of a word.
-fn job_of(word: &[u8]) -> Option<Job>
-    ensures value { result ≡ job_of word.now }
-    ensures built { IfSome result IsBuilt }
+pub(crate) fn job_of(word: &[u8]) -> Option<Job>
+    ensures { result ≡ job_of word.now }
 {
     if word == b"expand".as_slice() {
         return Some(Job::Expand);
@@ -130,13 +159,15 @@ fn job_of(word: &[u8]) -> Option<Job>
     if word == b"transform".as_slice() {
         return Some(Job::Transform);
     }
+    if word == b"derive".as_slice() {
+        return Some(Job::Derive);
+    }
     None
 }
 
 // Whether a word is a file's name.
 fn is_file(word: &[u8]) -> bool
-    ensures value { result ≡ is_file word.now }
-    ensures short { result ≡ true → length word.now ≤ 128 }
+    ensures { result ≡ is_file word.now }
 {
     !word.is_empty() && word[0] != b'-' && word.len() <= 128
 }

@@ -1,3 +1,4 @@
+use Rattle.mp_transform.specs.declared.output.Output.TheVariants as out
 use Rattle.mp_transform.proofs.Inverse.{canonical}
 use Rattle.mp_transform.proofs.WrongTokens.{result_shown}
 use Rattle.mp_transform.proofs.transform.transformed.Goals as goal
@@ -8,4 +9,4 @@ returns-clause-canonical c =
 
 pub returns-in_err-bytes-clause-wrong_token : goal.returns-in_err-bytes-clause-wrong_token
 returns-in_err-bytes-clause-wrong_token c =
-    result_shown c.from_residual.result c.args.text.now c.in_err-bytes.field-0.0 c.from_residual.ensures.1 c.in_err-bytes.ensures.says
+    result_shown out.Model c.from_residual.result c.args.text.now c.in_err-bytes.field-0.0 c.from_residual.ensures.1 c.in_err-bytes.ensures.says

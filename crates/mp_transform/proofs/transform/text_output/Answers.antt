@@ -9,7 +9,7 @@ use Rattle.mp_transform.proofs.FarShifts.{are-written}
 use Rattle.mp_transform.proofs.FreeNames.{free_names}
 use Rattle.mp_transform.proofs.Inverse.{lexed}
 use Rattle.mp_transform.proofs.Told.{source_refused, names_refused, text_told, names_told, shown_further}
-use Rattle.mp_transform.proofs.transform.printed_text.Goals as goal
+use Rattle.mp_transform.proofs.transform.text_output.Goals as goal
 
 pub tested-requires : goal.tested-requires
 tested-requires c =
@@ -18,12 +18,12 @@ tested-requires c =
 
 pub returns-in_err-model-clause-says : goal.returns-in_err-model-clause-says
 returns-in_err-model-clause-says c =
-    source_refused c.args.text.now _ c.in_ok-tokens.tokens (file_of c.in_ok-file.file) c.in_ok-tokens.ensures.says c.in_ok-file.ensures.says (search rules)
+    source_refused c.args.output c.args.text.now _ c.in_ok-tokens.tokens (file_of c.in_ok-file.file) c.in_ok-tokens.ensures.says c.in_ok-file.ensures.says (search rules)
     c.from_residual-in_err-model.result c.in_err-model.field-0.0 c.from_residual-in_err-model.ensures.1 c.in_err-model.ensures.says
 
 pub returns-in_err-names-clause-says : goal.returns-in_err-names-clause-says
 returns-in_err-names-clause-says c =
-    names_refused c.args.text.now _ c.in_ok-tokens.tokens (file_of c.in_ok-file.file) c.in_ok-tokens.ensures.says c.in_ok-file.ensures.says (search rules)
+    names_refused c.args.output c.args.text.now _ c.in_ok-tokens.tokens (file_of c.in_ok-file.file) c.in_ok-tokens.ensures.says c.in_ok-file.ensures.says (search rules)
     (model_data c.in_ok-model.model) c.in_ok-model.ensures.says
     c.from_residual-in_err-names.result c.in_err-names.field-0.0 c.from_residual-in_err-names.ensures.1 c.in_err-names.ensures.says
 
@@ -33,11 +33,11 @@ returns-in_err-names-clause-shows c =
 
 pub returns-clause-says : goal.returns-clause-says
 returns-clause-says c =
-    text_told c.args.text.now _ c.in_ok-tokens.tokens (file_of c.in_ok-file.file) c.in_ok-tokens.ensures.says c.in_ok-file.ensures.says (search rules)
+    text_told c.args.output c.args.text.now _ c.in_ok-tokens.tokens (file_of c.in_ok-file.file) c.in_ok-tokens.ensures.says c.in_ok-file.ensures.says (search rules)
     (model_data c.in_ok-model.model) c.in_ok-model.ensures.says c.in_ok-names.ensures.says c.shifted.result c.shifted.ensures.says
 
 pub returns-clause-names : goal.returns-clause-names
 returns-clause-names c =
-    names_told c.args.text.now _ c.in_ok-tokens.tokens (file_of c.in_ok-file.file) c.in_ok-tokens.ensures.says c.in_ok-file.ensures.says (search rules)
+    names_told c.args.output c.args.text.now _ c.in_ok-tokens.tokens (file_of c.in_ok-file.file) c.in_ok-tokens.ensures.says c.in_ok-file.ensures.says (search rules)
     (model_data c.in_ok-model.model) c.in_ok-model.ensures.says c.in_ok-names.ensures.says c.shifted.result
     (free_names (model_data c.in_ok-model.model) _ c.in_ok-names.ensures.names (subst (λ (g : Shared). IsDistinct bytes_eq g.names.endogenous) c.graph.ensures.graph (subst (λ (n : Names). IsDistinct bytes_eq n.endogenous) c.names.ensures c.distinct.ensures)))

@@ -1,0 +1,11 @@
+pub mod Have
+pub mod Levels
+pub mod Heights
+pub mod Meanings
+pub mod Back
+pub mod Written
+pub mod ReadRecords
+pub mod Order
+pub mod Origins
+pub mod Listing
+pub mod Printable

@@ -1,0 +1,6 @@
+pub mod Grammar
+pub mod Meant
+pub mod Records
+pub mod Derivatives
+pub mod Derived
+pub mod Listed

@@ -1,0 +1,15 @@
+-- What an answer says of derivatives.
+use Rattle.std.specs.Prelude.{◌≡◌, ℕ, List, Result, Ok, Err}
+use Rattle.mp_derivatives.specs.Records.{Derivation}
+use Rattle.mp_derive.specs.declared.fault.DeriveFault.{DeriveFault}
+use Rattle.mp_derive.specs.declared.fault.DeriveFault.TheVariants.{Large, NoMemory}
+
+-- they have so many operations; want of memory says nothing
+abbrev pub Fails : DeriveFault → Result (List Derivation) ℕ → Type 0
+Fails (Large count) given = given ≡ Err count
+Fails NoMemory given = Unit {0}
+
+-- these are given, or this many operations are too many
+abbrev pub Gives : Result (List Derivation) DeriveFault → Result (List Derivation) ℕ → Type 0
+Gives (Ok ds) given = given ≡ Ok ds
+Gives (Err fault) given = Fails fault given

@@ -1,0 +1,136 @@
+// The derivatives of a model.
+ghost use Rattle.std.specs.Prelude.{◌≡◌, ◌<◌, ◌≤◌, ◌++◌, length, map, IfOk, OnOk};
+ghost use Rattle.std.specs.List.{AllByRecursion};
+ghost use Rattle.mp_graph.specs.Own.{AreOwn};
+ghost use Rattle.mp_graph.specs.Shared.{term_at, Keeps};
+ghost use Rattle.mp_slopes.specs.Derivative.{HasDerivative};
+ghost use Rattle.mp_diff.specs.Places.{place_shown};
+ghost use Rattle.mp_model_data.specs.Shown.{model_data};
+ghost use Rattle.mp_derivatives.specs.Derivatives.{derivation, derivatives_of};
+ghost use Rattle.mp_derivatives.specs.Derived.{HaveDerivatives, derived};
+ghost use Rattle.mp_derive.specs.Gives.{Gives};
+ghost use Rattle.mp_derive.specs.Listed.{derivative_by, derivatives_by};
+
+use crate::count::operations;
+use crate::fault::DeriveFault;
+use crate::residual::residuals;
+use crate::slope::{Residual, derivative_at};
+use mp_base::NoMemory;
+use mp_diff::{Place, occurring_over};
+use mp_graph::{Graph, NodeId};
+use mp_model_data::{Model, Parts};
+use mp_report::Derivatives;
+use std::alloc::Global;
+
+// The most operations that the derivatives of a model may have together.
+const OPERATIONS_LIMIT: u128 = 2000000;
+
+/// The derivatives of a model, of the difference of both sides of each equation by each variable and shift that occurs
+/// in it: by equations, then in the order of places. If they have more than 2,000,000 operations together, as trees, none
+/// is built, and the fault tells how many, where the count stops at 10^37 (modpath's own).
+pub fn derivatives<'t>(alloc: Global, model: Model<'t>) -> Result<Derivatives<'t>, DeriveFault>
+    requires has { HaveDerivatives (model_data model) }
+    ensures given { Gives result (derived (model_data model.entry)) }
+{
+    let Parts {
+        mut graph,
+        parameters: _,
+        equations,
+    } = model.into_parts();
+    let roots = residuals(alloc, &mut graph, &equations)?;
+    let count = operations(alloc, &graph, &roots)?;
+    if count > OPERATIONS_LIMIT {
+        return Err(DeriveFault::Large { count });
+    }
+    let list = all_derivatives(alloc, &mut graph, &roots)?;
+    Ok(list)
+}
+
+// The derivatives of these nodes, which are the residuals of all equations in order.
+fn all_derivatives<'t>(
+    alloc: Global,
+    graph: &mut Graph<'t>,
+    roots: &[NodeId],
+) -> Result<Derivatives<'t>, NoMemory>
+    requires within { AllByRecursion (λ r. r < length graph.old.terms) roots.now }
+    requires has { AllByRecursion HasDerivative (map (term_at graph.old.terms) roots.now) }
+    ensures { IfOk result (λ ds. ds ≡ map (derivation graph.old.names) (derivatives_by 1 (map (term_at graph.old.terms) roots.now))) }
+{
+    let mut list = Derivatives::new(alloc);
+    let Ok(mut images) = vec![in alloc; NodeId::of(0); graph.nodes()] else {
+        return Err(NoMemory);
+    };
+    add_each(alloc, graph, roots, &mut images, &mut list)?;
+    Ok(list)
+}
+
+// Adds them, with a table by the numbers of nodes, which may hold anything.
+fn add_each<'t>(
+    alloc: Global,
+    graph: &mut Graph<'t>,
+    roots: &[NodeId],
+    images: &mut [NodeId],
+    list: &mut Derivatives<'t>,
+) -> Result<(), NoMemory>
+    requires within { AllByRecursion (λ r. r < length graph.old.terms) roots.now }
+    requires has { AllByRecursion HasDerivative (map (term_at graph.old.terms) roots.now) }
+    requires table { length graph.old.terms ≤ length images.old }
+    ensures { OnOk result (list.new ≡ list.old ++ map (derivation graph.old.names) (derivatives_by 1 (map (term_at graph.old.terms) roots.now))) }
+{
+    'turns: for place in 0..roots.len() {
+        add_all(alloc, graph, place + 1, roots[place], images, list)?;
+    }
+    Ok(())
+}
+
+// Adds the derivatives of this node, which is the residual of the equation of this number, by all places in it.
+fn add_all<'t>(
+    alloc: Global,
+    graph: &mut Graph<'t>,
+    equation: usize,
+    root: NodeId,
+    images: &mut [NodeId],
+    list: &mut Derivatives<'t>,
+) -> Result<(), NoMemory>
+    requires within { root < length graph.old.terms }
+    requires has { HasDerivative (term_at graph.old.terms root) }
+    requires table { root < length images.old }
+    ensures added { OnOk result (list.new ≡ list.old ++ map (derivation graph.old.names) (derivatives_of equation (term_at graph.old.terms root))) }
+    ensures kept { Keeps graph.old graph.new }
+{
+    let own = graph.own_nodes(alloc, root)?;
+    let places = occurring_over(alloc, graph, root, &own)?;
+    let residual = Residual {
+        equation,
+        root,
+        own: &own,
+    };
+    add_by(alloc, graph, &residual, places.as_slice(), images, list)
+}
+
+// Adds its derivatives by these places.
+fn add_by<'t>(
+    alloc: Global,
+    graph: &mut Graph<'t>,
+    residual: &Residual<'_>,
+    places: &[Place],
+    images: &mut [NodeId],
+    list: &mut Derivatives<'t>,
+) -> Result<(), NoMemory>
+    requires within { residual.now.root < length graph.old.terms }
+    requires own { AreOwn graph.old.terms residual.now.root residual.now.own.now }
+    requires has { HasDerivative (term_at graph.old.terms residual.now.root) }
+    requires table { residual.now.root < length images.old }
+    ensures added { OnOk result (list.new ≡ list.old ++ map (derivation graph.old.names) (map (derivative_by residual.now.equation (term_at graph.old.terms residual.now.root)) (map place_shown places.now))) }
+    ensures kept { Keeps graph.old graph.new }
+{
+    mp_graph::own_laws();
+    'turns: for place in places {
+        let derivative = match derivative_at(alloc, graph, residual, *place, images) {
+            Ok(derivative) => derivative,
+            Err(NoMemory) => return Err(NoMemory),
+        };
+        list.add(derivative)?;
+    }
+    Ok(())
+}

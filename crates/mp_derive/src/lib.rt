@@ -1,0 +1,12 @@
+//! The derivatives of a model: of the difference of both sides of each equation, by each variable and shift that occurs
+//! in it.
+#![tactic(auto)]
+
+pub mod count;
+pub mod derive;
+pub mod fault;
+pub mod residual;
+pub mod slope;
+
+pub use derive::derivatives;
+pub use fault::DeriveFault;
