@@ -47,6 +47,9 @@ module _ (h : Held) (g : Shared) (roots : List ℕ) (terms : map (term_at g.term
   pub too_many : (count : ℕ) → count ≡ min (sum_by all_operations (map (term_at g.terms) roots)) (10 ^ 37) → 2000000 < count → derived (model_data h) ≡ Err count
   too_many count is large = many (model_data h) count (counted count is) large
 
+  pub few_enough : (count : ℕ) → count ≡ min (sum_by all_operations (map (term_at g.terms) roots)) (10 ^ 37) → count ≤ 2000000 → derived (model_data h) ≡ Ok (derivations (model_data h))
+  few_enough count is small = few (model_data h) count (counted count is) small
+
   pub all_are : (count : ℕ) (ds : List Derivation) → map (λ (p : m.Parameter). p.name) h.parameters ≡ h.graph.names.parameters → g.names ≡ h.graph.names
       → count ≡ min (sum_by all_operations (map (term_at g.terms) roots)) (10 ^ 37) → count ≤ 2000000
       → ds ≡ map (derivation g.names) (derivatives_by 1 (map (term_at g.terms) roots)) → derived (model_data h) ≡ Ok ds

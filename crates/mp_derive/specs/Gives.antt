@@ -1,6 +1,9 @@
 -- What an answer says of derivatives.
 use Rattle.std.specs.Prelude.{◌≡◌, ℕ, List, Result, Ok, Err}
+use Rattle.mp_semantics.specs.Model.{Model}
 use Rattle.mp_derivatives.specs.Records.{Derivation}
+use Rattle.mp_derivatives.specs.Derivatives.{derivations}
+use Rattle.mp_derivatives.specs.Derived.{derived}
 use Rattle.mp_derive.specs.declared.fault.DeriveFault.{DeriveFault}
 use Rattle.mp_derive.specs.declared.fault.DeriveFault.TheVariants.{Large, NoMemory}
 
@@ -13,3 +16,8 @@ Fails NoMemory given = Unit {0}
 abbrev pub Gives : Result (List Derivation) DeriveFault → Result (List Derivation) ℕ → Type 0
 Gives (Ok ds) given = given ≡ Ok ds
 Gives (Err fault) given = Fails fault given
+
+-- the derivatives of a model are few enough, or this many operations are too many
+abbrev pub Tests : {X : Type 0} → Result X DeriveFault → Model → Type 0
+Tests (Ok x) M = derived M ≡ Ok (derivations M)
+Tests (Err fault) M = Fails fault (derived M)

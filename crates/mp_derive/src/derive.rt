@@ -8,7 +8,7 @@ ghost use Rattle.mp_diff.specs.Places.{place_shown};
 ghost use Rattle.mp_model_data.specs.Shown.{model_data};
 ghost use Rattle.mp_derivatives.specs.Derivatives.{derivation, derivatives_of};
 ghost use Rattle.mp_derivatives.specs.Derived.{HaveDerivatives, derived};
-ghost use Rattle.mp_derive.specs.Gives.{Gives};
+ghost use Rattle.mp_derive.specs.Gives.{Gives, Tests};
 ghost use Rattle.mp_derive.specs.Listed.{derivative_by, derivatives_by};
 
 use crate::count::operations;
@@ -44,6 +44,23 @@ pub fn derivatives<'t>(alloc: Global, model: Model<'t>) -> Result<Derivatives<'t
     }
     let list = all_derivatives(alloc, &mut graph, &roots)?;
     Ok(list)
+}
+
+/// Tests that the derivatives of a model have at most 2,000,000 operations together, and builds none (modpath's own).
+pub fn tested(alloc: Global, model: Model<'_>) -> Result<(), DeriveFault>
+    ensures given { Tests result (model_data model.entry) }
+{
+    let Parts {
+        mut graph,
+        parameters: _,
+        equations,
+    } = model.into_parts();
+    let roots = residuals(alloc, &mut graph, &equations)?;
+    let count = operations(alloc, &graph, &roots)?;
+    if count > OPERATIONS_LIMIT {
+        return Err(DeriveFault::Large { count });
+    }
+    Ok(())
 }
 
 // The derivatives of these nodes, which are the residuals of all equations in order.

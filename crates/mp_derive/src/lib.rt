@@ -8,5 +8,5 @@ pub mod fault;
 pub mod residual;
 pub mod slope;
 
-pub use derive::derivatives;
+pub use derive::{derivatives, tested};
 pub use fault::DeriveFault;

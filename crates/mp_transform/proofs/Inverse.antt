@@ -27,7 +27,8 @@ use Rattle.mp_local.specs.Local.{over_limit, names_refusal, shifts_refusal, heig
 use Rattle.mp_local.specs.Sizes.{sides_of, greatest, greatest_height}
 use Rattle.mp_shift.specs.Faults.{name_fault}
 use Rattle.mp_transform.specs.Steps.{Step, and_then, Says}
-use Rattle.mp_transform.specs.Text.{token_step, file_step, model_step, limited, name_step, named_step, sourced, tested, tokens_give, model_of_text, derived_step, text_gives, derivatives_give}
+use Rattle.mp_transform.specs.Text.{token_step, file_step, model_step, limited, name_step, named_step, sourced, tested, tokens_give, model_of_text, limit_step, output_of, text_gives, derivatives_give}
+use Rattle.mp_transform.specs.declared.output.Output.TheVariants as out
 use Rattle.mp_transform.specs.Canonical.{IsCanonical, AreDerivatives, HasNames}
 
 -- a step that gave something came after one that did
@@ -121,16 +122,20 @@ came text M e =
       is_local = local_is file M (meant end (local_given file) l.0 a.2 ∙ ap Ok (same_ok l.0 M n.2));
     }
 
+same_bytes : (x y : List ℕ) → (let r : Step (List ℕ) = Ok x in r ≡ Ok y) → y ≡ x
+same_bytes x y e = cc
+
 -- the bytes that a text gives are its canonical text
 pub canonical : ((ts : List Tok) (file : List Statement) → file_read ts ≡ Ok file → ReadsFile ts file)
     → ((file : List Statement) (M : Model) → model_given file ≡ Ok M → model_of file ≡ Some M)
     → ((text : List ℕ) (ts : List Tok) (file : List Statement) (M : Model) → tokens text ≡ Ok ts → ReadsFile ts file → model_given file ≡ Ok M → AllByRecursion (IsLow 500) M.equations → HasFreeNames M → KeepsSolutions file (canonical_text (transformed M)))
     → (text written : List ℕ) → HasNames (model_of_text text) → text_gives text ≡ Ok written → IsCanonical text written
 canonical found means headline text written names e =
-    let m = before (model_of_text text) (λ M. Ok (canonical_text (transformed M))) written e in
+    let m = before (model_of_text text) (λ M. output_of out.Model (transformed M)) written e in
     let c = came text m.0 m.1 in
     let reads = found c.ts c.file c.is_file in
-    let same : written ≡ canonical_text (transformed m.0) = cc in
+    let b = before (limit_step (derived (transformed m.0))) (λ ds. Ok (canonical_text (transformed m.0))) written m.2 in
+    let same = same_bytes (canonical_text (transformed m.0)) written b.2 in
     record {
       ts = c.ts;
       file = c.file;
@@ -143,11 +148,11 @@ canonical found means headline text written names e =
     }
 
 -- a text within the limits is that of all derivatives
-listed_all : (M : Model) (written : List ℕ) → derived_step (derived M) ≡ Ok written → written ≡ derivatives_text M
+listed_all : (M : Model) (written : List ℕ) → output_of out.Derivatives M ≡ Ok written → written ≡ derivatives_text M
 listed_all M written e = by (nat_le (operations (derivatives M)) 2000000) e
   where
-    by : (b : Bool) → derived_step (cond b (Ok (derivations M)) (Err (min (operations (derivatives M)) (10 ^ 37)))) ≡ Ok written → written ≡ derivatives_text M
-    by true h = cc
+    by : (b : Bool) → and_then (limit_step (cond b (Ok (derivations M)) (Err (min (operations (derivatives M)) (10 ^ 37))))) (λ ds. Ok (records_text ds)) ≡ Ok written → written ≡ derivatives_text M
+    by true h = same_bytes (derivatives_text M) written h
     by false h = absurd cc
 
 -- the bytes that a text gives are the records of its derivatives
@@ -156,7 +161,7 @@ pub listed : ((ts : List Tok) (file : List Statement) → file_read ts ≡ Ok fi
     → ((text : List ℕ) (ts : List Tok) (file : List Statement) (M : Model) → tokens text ≡ Ok ts → ReadsFile ts file → model_given file ≡ Ok M → AllByRecursion (IsLow 500) M.equations → HasFreeNames M → ListsDerivatives (transformed M) (derivatives_text (transformed M)))
     → (text written : List ℕ) → HasNames (model_of_text text) → derivatives_give text ≡ Ok written → AreDerivatives text written
 listed found means lists text written names e =
-    let m = before (model_of_text text) (λ M. derived_step (derived (transformed M))) written e in
+    let m = before (model_of_text text) (λ M. output_of out.Derivatives (transformed M)) written e in
     let c = came text m.0 m.1 in
     let reads = found c.ts c.file c.is_file in
     let same = listed_all (transformed m.0) written m.2 in

@@ -21,13 +21,14 @@ use Rattle.mp_values.specs.Table.{Table}
 use Rattle.mp_values.specs.Limits.{Stuck, Unvalued, Refused, Folded}
 use Rattle.mp_values.specs.Values.{values_given}
 use Rattle.mp_values.specs.Exponents.{all_exponents}
-use Rattle.mp_derivatives.specs.Records.{Derivation}
+use Rattle.mp_canonical.specs.Files.{canonical_text}
+use Rattle.mp_derivatives.specs.Records.{Derivation, records_text}
 use Rattle.mp_derivatives.specs.Derived.{derived}
 use Rattle.mp_transform.specs.declared.output.Output.{Output}
 use Rattle.mp_transform.specs.declared.output.Output.TheVariants as out
 use Rattle.mp_decl.specs.Given.{stuck_told, unless_fault, unless_far, unless_stuck, values_told, declared_given}
 use Rattle.mp_transform.specs.Steps.{Step, and_then, Refuses}
-use Rattle.mp_transform.specs.Text.{token_step, wrong_token, file_step, model_step, limited, name_step, named_step, sourced, tested, tokens_give, derived_step, output_of, output_gives}
+use Rattle.mp_transform.specs.Text.{token_step, wrong_token, file_step, model_step, limited, name_step, named_step, sourced, tested, tokens_give, limit_step, output_of, output_gives}
 use Rattle.mp_transform.specs.Wrong.{ShowsWrongToken, IfWrongToken}
 
 -- it refuses no tokens and no grammar
@@ -121,13 +122,13 @@ refused (LongName at) ts e = cc
 refused (OpenComment at) ts e = cc
 refused (OpenText at) ts e = cc
 
-derived_later : (r : Result (List Derivation) ℕ) → Later (derived_step r)
-derived_later (Ok ds) = tt
-derived_later (Err count) = tt
+limit_later : (r : Result (List Derivation) ℕ) → Later (limit_step r)
+limit_later (Ok ds) = tt
+limit_later (Err count) = tt
 
 output_later : (output : Output) (M : Model) → Later (output_of output M)
-output_later out.Model M = tt
-output_later out.Derivatives M = derived_later (derived M)
+output_later out.Model M = and_later (limit_step (derived M)) (λ ds. Ok (canonical_text M)) (limit_later (derived M)) (λ ds. tt)
+output_later out.Derivatives M = and_later (limit_step (derived M)) (λ ds. Ok (records_text ds)) (limit_later (derived M)) (λ ds. tt)
 
 shows_wrong : (output : Output) (text : List ℕ) (outcome : Refusal) → output_gives output text ≡ Err outcome → IsToken outcome → ShowsWrongToken text outcome
 shows_wrong output text outcome e is = by_tokens (tokens text) refl e

@@ -73,15 +73,15 @@ abbrev pub model_of_text : List ℕ → Step Model
 model_of_text text = and_then (token_step (tokens text)) (tokens_give (length text))
 
 -- the records of derivatives, or that these have too many operations together
-abbrev pub derived_step : Result (List Derivation) ℕ → Step (List ℕ)
-derived_step (Ok ds) = Ok (records_text ds)
-derived_step (Err count) =
+abbrev pub limit_step : Result (List Derivation) ℕ → Step (List Derivation)
+limit_step (Ok ds) = Ok ds
+limit_step (Err count) =
     Err (o.Data (record { kind = d.DerivativesLarge; at = 0; first = whole count; second = whole 2000000 }))
 
 -- what is written of a model
 abbrev pub output_of : Output → Model → Step (List ℕ)
-output_of out.Model M = Ok (canonical_text M)
-output_of out.Derivatives M = derived_step (derived M)
+output_of out.Model M = and_then (limit_step (derived M)) (λ ds. Ok (canonical_text M))
+output_of out.Derivatives M = and_then (limit_step (derived M)) (λ ds. Ok (records_text ds))
 
 -- what is written of the transformed model of a text
 abbrev pub output_gives : Output → List ℕ → Step (List ℕ)

@@ -1,11 +1,10 @@
 // What is written of a transformed model.
 ghost use Rattle.std.specs.Prelude.{◌≡◌, ◌≤◌, ◌^◌, pos, Ok, MatchResult};
 ghost use Rattle.mp_model_data.specs.Shown.{model_data};
-ghost use Rattle.mp_canonical.specs.Files.{canonical_text};
 ghost use Rattle.mp_derivatives.specs.Records.{records_text};
-ghost use Rattle.mp_derivatives.specs.Derived.{HaveDerivatives, derived};
+ghost use Rattle.mp_derivatives.specs.Derived.{HaveDerivatives};
 ghost use Rattle.mp_transform.specs.Steps.{Says, TextShows, whole};
-ghost use Rattle.mp_transform.specs.Text.{derived_step, output_of};
+ghost use Rattle.mp_transform.specs.Text.{output_of};
 
 use mp_base::{Bytes, DataKind, DataRefusal, Reduced, Refusal};
 use mp_derive::DeriveFault;
@@ -30,26 +29,30 @@ pub(crate) fn written(alloc: Global, model: Model, output: Output) -> Result<Byt
     ensures shows { MatchResult result (λ _. Unit {0}) TextShows }
 {
     match output {
-        Output::Model => printed(alloc, &model),
+        Output::Model => printed(alloc, model),
         Output::Derivatives => listed(alloc, model),
     }
 }
 
-// The canonical text of the model.
-fn printed(alloc: Global, model: &Model) -> Result<Bytes, Refusal>
-    ensures says { Says (λ bytes. bytes) (Ok (canonical_text (model_data model.now))) result }
+// The canonical text of the model, whose derivatives are within their limit.
+fn printed(alloc: Global, model: Model) -> Result<Bytes, Refusal>
+    ensures says { Says (λ bytes. bytes) (output_of Output.Model (model_data model.entry)) result }
     ensures shows { MatchResult result (λ _. Unit {0}) TextShows }
 {
-    match mp_print_model::print_model(alloc, model) {
-        Ok(bytes) => Ok(bytes),
-        Err(_) => Err(Refusal::NoMemory),
+    let Ok(text) = mp_print_model::print_model(alloc, &model) else {
+        return Err(Refusal::NoMemory);
+    };
+    match mp_derive::tested(alloc, model) {
+        Ok(()) => Ok(text),
+        Err(DeriveFault::Large { count }) => Err(too_large(count)),
+        Err(DeriveFault::NoMemory) => Err(Refusal::NoMemory),
     }
 }
 
 // The records of the model's derivatives.
 fn listed(alloc: Global, model: Model) -> Result<Bytes, Refusal>
     requires { HaveDerivatives (model_data model) }
-    ensures says { Says (λ bytes. bytes) (derived_step (derived (model_data model.entry))) result }
+    ensures says { Says (λ bytes. bytes) (output_of Output.Derivatives (model_data model.entry)) result }
     ensures shows { MatchResult result (λ _. Unit {0}) TextShows }
 {
     match mp_derive::derivatives(alloc, model) {

@@ -34,8 +34,8 @@ use std::alloc::Global;
 /// The canonical text of the model that a text means, with locals replaced, differences taken, and long leads and lags
 /// of endogenous variables written by auxiliary variables: its names, the values of its parameters and its equations,
 /// with exponents folded and the fewest parentheses; or the first refusal: of tokens, grammar, declarations, values,
-/// limits of models and names of auxiliaries, in this order (Dynare manual, "The model file", "Auxiliary variables"; the
-/// canonical text is modpath's own).
+/// limits of models, names of auxiliaries and the limit of derivatives, in this order (Dynare manual, "The model file",
+/// "Auxiliary variables"; the canonical text is modpath's own).
 pub fn transformed(alloc: Global, text: &[u8]) -> Result<Bytes, Refusal>
     requires { length text.now < 2 ^ 32 - 1 }
     ensures says { Says (λ bytes. bytes) (text_gives text.now) result }
@@ -53,8 +53,8 @@ pub fn transformed(alloc: Global, text: &[u8]) -> Result<Bytes, Refusal>
 }
 
 /// The derivatives of the model that `transformed` writes, as comma-separated records: of the difference of both sides of
-/// each equation, by each variable and shift that occurs in it; or the first refusal: those of `transformed`, and then
-/// that the derivatives have more than 2,000,000 operations together (modpath's own).
+/// each equation, by each variable and shift that occurs in it; or the first refusal, as `transformed` has it (modpath's
+/// own).
 pub fn derived(alloc: Global, text: &[u8]) -> Result<Bytes, Refusal>
     requires { length text.now < 2 ^ 32 - 1 }
     ensures says { Says (λ bytes. bytes) (derivatives_give text.now) result }

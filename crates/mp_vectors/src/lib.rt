@@ -557,6 +557,12 @@ pub const REFUSED: &[Row] = &[
         out: b"",
         err: b"modpath: 5 Text kind=Token at=18 token=pick\n",
     },
+    Row {
+        text: b"var x; model; # b1 = x*x; # b2 = b1*b1; # b3 = b2*b2; # b4 = b3*b3; # b5 = b4*b4; # b6 = b5*b5; # b7 = b6*b6; # b8 = b7*b7; # b9 = b8*b8; # b10 = b9*b9; # b11 = b10*b10; # b12 = b11*b11; # b13 = b12*b12; # b14 = b13*b13; # b15 = b14*b14; # b16 = b15*b15; # b17 = b16*b16; b17 = 0; end;",
+        status: 7,
+        out: b"",
+        err: b"modpath: 7 Data kind=DerivativesLarge at=0 first=2228223 second=2000000\n",
+    },
 ];
 
 /// What `derive m` gives.

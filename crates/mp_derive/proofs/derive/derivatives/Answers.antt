@@ -6,12 +6,9 @@ use Rattle.mp_model_data.specs.Shown.{sides_of}
 use Rattle.mp_derivatives.specs.Derivatives.{derivation}
 use Rattle.mp_derive.specs.Counted.{all_operations}
 use Rattle.mp_derive.specs.Listed.{derivatives_by}
+use Rattle.mp_derive.proofs.Counts.{counted}
 use Rattle.mp_derive.proofs.Derived.{of_model, roots_have, too_many, all_are}
 use Rattle.mp_derive.proofs.derive.derivatives.Goals as goal
-
--- the count of these nodes, which were lent
-counted : (g : Shared) (roots lent : List ℕ) (count : ℕ) → lent ≡ roots → count ≡ min (sum_by all_operations (map (term_at g.terms) lent)) (10 ^ 37) → count ≡ min (sum_by all_operations (map (term_at g.terms) roots)) (10 ^ 37)
-counted g roots lent count same is = is ∙ ap (λ (rs : List ℕ). min (sum_by all_operations (map (term_at g.terms) rs)) (10 ^ 37)) same
 
 pub returns-then-count-gt-OPERATIONS_LIMIT : goal.returns-then-count-gt-OPERATIONS_LIMIT
 returns-then-count-gt-OPERATIONS_LIMIT c =
