@@ -1,5 +1,6 @@
 #!/bin/sh
-# Times `transform` on texts near the limits: seconds and MB/s of the built program.
+# Times `transform` on texts near the limits: seconds by the processor's clock, the best of three, and MB/s of the built
+# program.
 # Usage: bench/transform.sh        (after `./modpath transform examples/one.mod`, which builds the program)
 top=$(dirname -- "$(readlink -f -- "$0")")/..
 program=$top/crates/modpath/out/modpath
@@ -102,18 +103,20 @@ notes() {
 
 # name, wanted status
 measure() {
-  bytes=$(wc -c < "$work/text.mod")
-  best=
-  for turn in 1 2 3; do
-    begun=$(date +%s.%N)
-    "$program" transform "$work/text.mod" > "$work/out.mod" 2> "$work/fault"
-    status=$?
-    ended=$(date +%s.%N)
-    [ "$status" = "$2" ] || { echo "$1: status $status: $(cat "$work/fault")" >&2; exit 1; }
-    best=$(awk -v a="$begun" -v b="$ended" -v best="$best" 'BEGIN { t = b - a; print (best == "" || t < best) ? t : best }')
-  done
-  awk -v what="$1" -v status="$2" -v bytes="$bytes" -v t="$best" 'BEGIN {
-    printf "%-44s status %d %8.2f MB %7.3f s %8.1f MB/s\n", what, status, bytes / 1e6, t, bytes / 1e6 / t }'
+  python3 - "$program" "$work/text.mod" "$1" "$2" <<'END'
+import os, subprocess, sys
+program, text, name, wanted = sys.argv[1:]
+times = []
+for turn in range(3):
+    child = subprocess.Popen([program, "transform", text], stdout=subprocess.DEVNULL, stderr=subprocess.PIPE)
+    told = child.stderr.read().decode()
+    _, status, use = os.wait4(child.pid, 0)
+    if os.waitstatus_to_exitcode(status) != int(wanted):
+        sys.exit("%s: status %d: %s" % (name, os.waitstatus_to_exitcode(status), told))
+    times.append(use.ru_utime + use.ru_stime)
+size = os.path.getsize(text) / 1e6
+print("%-44s status %s %8.2f MB %7.3f s %8.1f MB/s" % (name, wanted, size, min(times), size / max(min(times), 1e-3)))
+END
 }
 
 products 100 480 1 > "$work/text.mod"

@@ -1,0 +1,5 @@
+//! Tests of derivatives over a graph.
+#![tactic(auto)]
+
+#[cfg(test)]
+mod tests;
