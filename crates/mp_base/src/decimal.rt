@@ -1,5 +1,5 @@
 // Units of 10^-12 as decimals.
-ghost use Rattle.std.specs.Prelude.{◌≡◌, ◌+◌, ◌*◌, ◌^◌, ◌≤◌, [], ◌++◌, length, replicate, unsigned_abs};
+ghost use Rattle.std.specs.Prelude.{◌≡◌, ◌+◌, ◌*◌, ◌^◌, ◌≤◌, ◌++◌, length, replicate, unsigned_abs};
 ghost use Rattle.mp_base.specs.Decimals.{decimal_text, magnitude_text};
 
 use itoa::Buffer;

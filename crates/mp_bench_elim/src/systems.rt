@@ -1,5 +1,5 @@
 // The systems of a text.
-ghost use Rattle.std.specs.Prelude.{◌≡◌, ◌*◌, ◌<◌, ◌≤◌, length};
+ghost use Rattle.std.specs.Prelude.{◌≡◌, ◌*◌, ◌<◌, length};
 ghost use Rattle.mp_elim.specs.Shape.{IsSquare};
 ghost use Rattle.mp_band.specs.Blocks.{count_of, IsInShape};
 

@@ -3,7 +3,7 @@ use Rattle.std.proofs.Common.{◌≡◌, ℕ, List, [], ◌∷◌, ◌++◌, map
 use Rattle.mp_syntax.specs.Syntax.{Named, Expr}
 use Rattle.mp_statements.specs.declared.kind.NameKind.TheVariants as kind
 use Rattle.mp_statements.specs.Statements.{Item, Statement, Declares, Assigns, Model, Notes}
-use Rattle.mp_statements.specs.Parts.{names_in, items_in, items_of}
+use Rattle.mp_statements.specs.Parts.{items_of}
 use Rattle.mp_statements.specs.Parts as parts
 use Rattle.mp_semantics.specs.Model as m
 use Rattle.mp_values.specs.Table.{Table, unset, with_value}

@@ -4,7 +4,6 @@ use Rattle.std.specs.List.{AllByRecursion}
 use Rattle.mp_rational.specs.Fraction.{Fraction}
 use Rattle.mp_rational.specs.Lowest.{numerator, denominator}
 use Rattle.mp_syntax.specs.declared.operator.Operator.TheVariants as o
-use Rattle.mp_syntax.specs.Syntax.{Shift, Named, Expr}
 use Rattle.mp_syntax.specs.Syntax as expr
 use Rattle.mp_statements.specs.declared.kind.NameKind.{NameKind}
 use Rattle.mp_statements.specs.declared.kind.NameKind.TheVariants as kind

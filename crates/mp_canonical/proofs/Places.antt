@@ -7,7 +7,7 @@ use Rattle.mp_statements.specs.declared.kind.NameKind.TheVariants as kind
 use Rattle.mp_syntax.specs.declared.operator.Sign.{Sign}
 use Rattle.mp_syntax.specs.Syntax.{Named, Expr, Number, Variable, Signed, Binary, Power, Paren, Call, Diff, Pick}
 use Rattle.mp_statements.specs.Statements.{Tag, Equation, Item, Local, Equates, Statement, Declares, Assigns, Model, Notes}
-use Rattle.mp_statements.specs.Parts.{is_kind, is_tag, unquoted, names_in, items_in, items_of, name_of}
+use Rattle.mp_statements.specs.Parts.{is_kind, is_tag, unquoted, names_in, items_in, items_of}
 use Rattle.mp_statements.specs.Parts as parts
 use Rattle.mp_semantics.specs.Term.{Term}
 use Rattle.mp_semantics.specs.Value.{result_of}

@@ -1,5 +1,5 @@
 // What is known of the points of a file so far.
-ghost use Rattle.std.specs.Prelude.{◌≡◌, [], ◌∷◌, false, take, is_some, option_map, Some, IfOk};
+ghost use Rattle.std.specs.Prelude.{◌≡◌, [], ◌∷◌, false, take, is_some, option_map, Some};
 ghost use Rattle.mp_file.specs.Shown.{named_of, shift_of, choice_of};
 ghost use Rattle.mp_declared.specs.Declared.{read_fault, diff_fault, may_read, is_parameter, is_variable};
 ghost use Rattle.mp_declared.specs.Points.{Declared, Assigned, Begins, Chosen, Defines, Defined, Noted};

@@ -1,6 +1,6 @@
 // What is sought among the names that expressions read.
 ghost use Rattle.std.specs.Prelude.{◌≡◌, option_map, Some, None, if◌then◌else◌};
-ghost use Rattle.mp_decl.specs.Shown.{point_of, told};
+ghost use Rattle.mp_decl.specs.Shown.{point_of};
 ghost use Rattle.mp_decl.specs.Search.{name_in, is_unlisted, sought_by};
 
 use crate::known::Known;

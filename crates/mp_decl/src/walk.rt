@@ -1,5 +1,5 @@
 // The walk over a file in text order, names from left to right. It stops at the first fault.
-ghost use Rattle.std.specs.Prelude.{◌≡◌, ◌++◌, ◌∷◌, [], map, option_map};
+ghost use Rattle.std.specs.Prelude.{◌++◌, ◌∷◌, [], map, option_map};
 ghost use Rattle.std.specs.List.{flat_map};
 ghost use Rattle.mp_statements.specs.Sides.{sides};
 ghost use Rattle.mp_file.specs.Shown.{named_of, expr_of, choice_of, equation_of, item_of, statement_of};

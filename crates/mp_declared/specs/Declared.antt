@@ -8,7 +8,7 @@ use Rattle.mp_base.specs.declared.kinds.DeclKind.TheVariants as k
 use Rattle.mp_statements.specs.declared.kind.NameKind.{NameKind}
 use Rattle.mp_statements.specs.declared.kind.NameKind.TheVariants as kind
 use Rattle.mp_syntax.specs.Syntax.{Shift, Named}
-use Rattle.mp_statements.specs.Statements.{Setting, Choice, Tag, Equation, Statement, Declares, Assigns, Model, Notes}
+use Rattle.mp_statements.specs.Statements.{Choice, Tag, Equation, Statement, Declares, Assigns, Model, Notes}
 use Rattle.mp_statements.specs.Parts.{names_of, equations_of, is_tag, name_of}
 use Rattle.mp_declared.specs.Points.{Reader, InModel, Constant, Point, Declared, Assigned, Begins, Chosen, Defines, Defined, Reads, Differs, Tagged, Noted, reads, points_of, with_earlier}
 

@@ -1,11 +1,11 @@
 -- How many names a file may declare (modpath's own).
-use Rattle.std.specs.Prelude.{ℕ, ◌+◌, List, [], ◌∷◌, ◌++◌, map, length, nat_lt, not, if◌then◌else◌, Option, Some, None}
+use Rattle.std.specs.Prelude.{ℕ, ◌+◌, List, [], ◌∷◌, ◌++◌, map, nat_lt, not, if◌then◌else◌, Option, Some, None}
 use Rattle.std.specs.List.{flat_map}
 use Rattle.mp_statements.specs.declared.kind.NameKind.{NameKind}
 use Rattle.mp_statements.specs.declared.kind.NameKind.TheVariants as kind
 use Rattle.mp_syntax.specs.Syntax.{Named}
 use Rattle.mp_statements.specs.Statements.{Statement, Declares, Assigns, Model, Notes}
-use Rattle.mp_statements.specs.Parts.{names_of, is_kind}
+use Rattle.mp_statements.specs.Parts.{is_kind}
 
 -- the most names of a kind
 abbrev pub most_names : NameKind → ℕ

@@ -1,5 +1,5 @@
 // The counts of the operations of derivatives.
-ghost use Rattle.std.specs.Prelude.{◌≡◌, ◌<◌, ◌≤◌, ◌+◌, ◌-◌, ◌^◌, ℤ, min, length};
+ghost use Rattle.std.specs.Prelude.{◌≡◌, ◌<◌, ◌≤◌, ◌-◌, ◌^◌, ℤ, min, length};
 ghost use Rattle.mp_expr.specs.Shown.{variable_of};
 ghost use Rattle.mp_expr.specs.Size.{count_of};
 ghost use Rattle.mp_graph.specs.Images.{HasRows};

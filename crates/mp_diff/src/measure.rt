@@ -1,11 +1,11 @@
 // The sizes of expressions and of their derivatives, by those of their operands.
-ghost use Rattle.std.specs.Prelude.{◌≡◌, ◌<◌, ◌≤◌, ◌+◌, ◌-◌, ◌^◌, ◌≤ℤ◌, ◌-ℤ◌, ℤ, pos, negsuc};
+ghost use Rattle.std.specs.Prelude.{◌≡◌, ◌<◌, ◌≤◌, ◌+◌, ◌-◌, ◌^◌, ◌≤ℤ◌, ℤ, negsuc};
 ghost use Rattle.mp_expr.specs.Shown.{variable_of};
 ghost use Rattle.mp_graph.specs.Op.{leaf_of, binary_of};
 ghost use Rattle.mp_semantics.specs.Term as term;
 ghost use Rattle.mp_semantics.specs.Term.{Variable, Term, leaf, negative, binary, power_of, pick};
 ghost use Rattle.mp_slopes.specs.Derivative.{leaf_derivative, signed_term, whole_term};
-ghost use Rattle.mp_diff.specs.Size.{AreSizes, bare, binary_size, is_one, is_zero, leaf_size, minus_size, negative_size, once_less, once_more, operation, pick_size, plus_size, power_derivative_size, power_size, product_size, quotient_derivative_size, quotient_size, size_of, times_size, total};
+ghost use Rattle.mp_diff.specs.Size.{AreSizes, bare, binary_size, is_one, is_zero, leaf_size, minus_size, negative_size, once_more, operation, pick_size, plus_size, power_derivative_size, power_size, product_size, quotient_derivative_size, quotient_size, size_of, times_size, total};
 
 use crate::table::{is_at, one_less};
 use mp_expr::VarId;

@@ -1,5 +1,5 @@
 // Small systems, with what an independent program gives for each; numbers are in units of 10^-12.
-ghost use Rattle.std.specs.Prelude.{◌≡◌, ◌*◌, ◌<◌, ◌≤◌};
+ghost use Rattle.std.specs.Prelude.{◌≡◌, ◌*◌, ◌<◌};
 ghost use Rattle.mp_band.specs.Blocks.{count_of, IsInShape};
 
 use mp_band::Band;

@@ -1,6 +1,5 @@
 // A grid that can be asked what it has.
-ghost use Rattle.std.specs.Prelude.{◌≡◌, ◌+◌, ◌*◌, ◌≤◌, ◌<◌, ◌^◌, ◌≤ℤ◌, pos, negsuc, false, map, slice_get, length, IsSome, IsTrue, IfOk};
-ghost use Rattle.mp_frac.specs.Value.{value_of};
+ghost use Rattle.std.specs.Prelude.{◌≡◌, ◌+◌, ◌*◌, ◌≤◌, ◌<◌, ◌^◌, ◌≤ℤ◌, pos, negsuc, false, IsSome, IsTrue, IfOk};
 ghost use Rattle.mp_expr.specs.Shown.{place_of, variable_of};
 ghost use Rattle.mp_semantics.specs.Solves.{is_inside, is_near};
 ghost use Rattle.mp_walk.specs.Cells.{cell_at};

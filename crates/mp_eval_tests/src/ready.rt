@@ -1,12 +1,9 @@
 // Whether terms can be evaluated.
-ghost use Rattle.std.specs.Prelude.{◌≡◌, ◌+◌, ◌≤◌, ◌<◌, ◌^◌, pos, length, slice_index, EachIndex, IfOk, IsTrue, IsSome};
+ghost use Rattle.std.specs.Prelude.{◌≡◌, ◌+◌, ◌<◌, ◌^◌, pos, IfOk, IsTrue, IsSome};
 ghost use Rattle.mp_graph.specs.Op.{leaf_of};
 ghost use Rattle.mp_walk.specs.Cells.{cell_at};
 ghost use Rattle.mp_walk.specs.Walk.{size};
 ghost use Rattle.mp_path.specs.Points.{cells_of};
-ghost use Rattle.mp_graph.specs.Images.{HasRows};
-ghost use Rattle.mp_graph.specs.Part.{IsPart};
-ghost use Rattle.mp_graph.specs.Shared.{term_at};
 ghost use Rattle.mp_eval.specs.Given.{IsGiven};
 
 use crate::frame::Frame;

@@ -1,8 +1,9 @@
 // Quotients by the number of units of 1, by parts of 64 bits: no division of 128 bits is left to software.
 ghost use Rattle.std.specs.Prelude.{◌≡◌, ◌/◌, ◌^◌, ◌<◌};
 ghost use Rattle.std.specs.Int.RustNames.{unsigned_abs};
-ghost use Rattle.mp_fix.specs.Units.{floor, unit};
+ghost use Rattle.mp_fix.specs.Units.{floor, ceiling, unit};
 
+use crate::exact::negated;
 use mp_integer::Whole;
 
 // 10^12 = 2^12 * 5^12.
@@ -39,4 +40,13 @@ pub(crate) fn by_unit_down(n: Whole) -> Whole
     let negative = n.is_negative();
     let one = if negative { 1 } else { 0 };
     Whole::signed(negative, by_unit(n.magnitude() - one) + one)
+}
+
+/// n / 10^12, rounded up.
+#[inline]
+pub(crate) fn by_unit_up(n: Whole) -> Whole
+    requires { unsigned_abs n < 2 ^ 127 }
+    ensures { result ≡ ceiling n unit }
+{
+    negated(by_unit_down(negated(n)))
 }

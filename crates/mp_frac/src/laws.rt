@@ -1,19 +1,5 @@
 // Laws, as the clauses of functions without code.
-ghost use Rattle.std.specs.Prelude.{
-  ◌≡◌,
-  ◌≢◌,
-  ◌↔◌,
-  ◌⊎◌,
-  ◌<◌,
-  ◌≤◌,
-  ◌*◌,
-  ◌/◌,
-  ◌+ℤ◌,
-  ◌*ℤ◌,
-  ◌<ℤ◌,
-  ℤ,
-  pos,
-};
+ghost use Rattle.std.specs.Prelude.{◌≡◌, ◌≢◌, ◌↔◌, ◌⊎◌, ◌<◌, ◌≤◌, ◌/◌, ◌<ℤ◌, ℤ, pos};
 ghost use Rattle.std.specs.Int.{IsGcd};
 ghost use Rattle.std.specs.Int.RustNames.{unsigned_abs};
 ghost use Rattle.mp_rational.specs.Fraction.{Fraction, add, sub, mul, div, power, whole, nought};

@@ -1,6 +1,5 @@
 // What stands in an expression without leading back to one.
 ghost use Rattle.std.specs.Prelude.{◌≡◌, ◌<◌, ◌≤◌, length, option_map, IfOk};
-ghost use Rattle.mp_lex.specs.Shown.{tok_of};
 ghost use Rattle.mp_syntax.specs.Syntax as s;
 ghost use Rattle.mp_file.specs.Shown.{shift_of, named_of, expr_of};
 ghost use Rattle.mp_format.specs.Format.{opt, via, read, meets, first};

@@ -1,9 +1,9 @@
 -- Names that are added leave nodes as they are, and each leaf reads a name.
-use Rattle.std.proofs.Common.{◌≡◌, ℕ, cond, ◌+◌, ◌-◌, ◌<◌, ◌≤◌, List, [], ◌∷◌, ◌++◌, length, slice_get, Some, sym, ◌∙◌, ap, subst, arith}
+use Rattle.std.proofs.Common.{◌≡◌, ℕ, cond, ◌+◌, ◌-◌, ◌<◌, ◌≤◌, List, [], ◌∷◌, ◌++◌, length, sym, ◌∙◌, ap, subst, arith}
 use borrow.Author.Tests.{ne_eqb}
 use Rattle.std.proofs.lemmas.List.{length-append}
 use Rattle.mp_semantics.specs.Term as term
-use Rattle.mp_semantics.specs.Term.{Term, number, parameter, variable, endogenous, exogenous, steady_state, leaf}
+use Rattle.mp_semantics.specs.Term.{Term, endogenous, leaf}
 use Rattle.mp_expr.specs.Shown.{place_of}
 use Rattle.mp_expr.specs.declared.tree.VarId.TheVariants.{Endo, Exo}
 use Rattle.mp_graph.specs.declared.op.LeafOp.{LeafOp}
@@ -15,7 +15,7 @@ use Rattle.mp_statements.specs.declared.kind.NameKind.TheVariants.{Endogenous}
 use Rattle.mp_values.specs.Names.{Names}
 use Rattle.mp_names.specs.Named.{with_name}
 use Rattle.mp_graph.specs.Op.{IsLawfulLeaf, IsLawful, leaf_of, over}
-use Rattle.mp_graph.specs.Nodes.{FitsAt, IsSound, terms_of}
+use Rattle.mp_graph.specs.Nodes.{IsSound, terms_of}
 use Rattle.mp_graph.specs.Shared.{term_at}
 use Rattle.mp_graph.specs.Readable.{IsNamedLeaf}
 use Rattle.mp_graph.proofs.Nodes.{node_term, length-terms_of, got}

@@ -1,5 +1,5 @@
 // A pass that gives each node an image.
-ghost use Rattle.std.specs.Prelude.{◌≡◌, ◌<◌, ◌≤◌, length, IfOk};
+ghost use Rattle.std.specs.Prelude.{◌<◌, ◌≤◌, length, IfOk};
 ghost use Rattle.mp_semantics.specs.Term.{Term};
 ghost use Rattle.mp_graph.specs.Shared.{term_at, Says, Keeps};
 ghost use Rattle.mp_graph.specs.Images.{HasImages};

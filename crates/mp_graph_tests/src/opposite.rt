@@ -1,5 +1,5 @@
 // A pass that rebuilds.
-ghost use Rattle.std.specs.Prelude.{◌≡◌, ◌<◌, ◌≤◌, length, IfOk};
+ghost use Rattle.std.specs.Prelude.{◌<◌, ◌≤◌, length, IfOk};
 ghost use Rattle.mp_graph.specs.Images.{HasImages};
 ghost use Rattle.mp_graph.specs.Shared.{term_at, Says, Keeps};
 ghost use Rattle.mp_graph_tests.specs.Opposite.{opposite};

@@ -1,16 +1,16 @@
 -- The model of a file within the limits of models, or its first refusal: of a name too many, of a shift too far, of its numbers and names, of a side too high, of sides too large (modpath's own).
-use Rattle.std.specs.Prelude.{ℕ, pos, ◌^◌, min, nat_le, length, is_some, if◌then◌else◌, List, Option, Some, None, option_map, Ok, Err}
+use Rattle.std.specs.Prelude.{ℕ, pos, ◌^◌, min, nat_le, length, if◌then◌else◌, List, Option, Some, None, option_map, Ok, Err}
 use Rattle.mp_base.specs.declared.kinds.DataKind.{DataKind}
 use Rattle.mp_base.specs.declared.kinds.DataKind.TheVariants as d
 use Rattle.mp_rational.specs.Fraction.{whole}
 use Rattle.mp_statements.specs.declared.kind.NameKind.{NameKind}
 use Rattle.mp_syntax.specs.Syntax.{Named}
-use Rattle.mp_statements.specs.Statements.{Item, Statement}
+use Rattle.mp_statements.specs.Statements.{Statement}
 use Rattle.mp_statements.specs.Parts as parts
 use Rattle.mp_statements.specs.Parts.{items_of}
 use Rattle.mp_declared.specs.Many.{most_names, name_beyond}
 use Rattle.mp_semantics.specs.Model as m
-use Rattle.mp_values.specs.Names.{Names, names_of, place_of, is_variable}
+use Rattle.mp_values.specs.Names.{names_of, is_variable}
 use Rattle.mp_values.specs.Limits.{Stuck, Refused, Folded, ◌>>=◌}
 use Rattle.mp_values.specs.ModelOf.{model_given}
 use Rattle.mp_values.specs.Shifts.{FarName, far_name, no_locals}

@@ -1,5 +1,5 @@
 // The model of a file within the limits.
-ghost use Rattle.std.specs.Prelude.{◌≡◌, None, Ok, IfOk, option_map};
+ghost use Rattle.std.specs.Prelude.{◌≡◌, None, Ok};
 ghost use Rattle.mp_statements.specs.Parts.{items_of};
 ghost use Rattle.mp_file.specs.Shown.{file_of};
 ghost use Rattle.mp_model_data.specs.Shown.{model_data};

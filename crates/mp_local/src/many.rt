@@ -1,5 +1,5 @@
 // The first name that is one too many.
-ghost use Rattle.std.specs.Prelude.{◌≡◌, ◌≤◌, ◌-◌, ◌∷◌, [], List, option_map, length, if◌then◌else◌};
+ghost use Rattle.std.specs.Prelude.{◌≡◌, ◌≤◌, ◌-◌, List, option_map, if◌then◌else◌};
 ghost use Rattle.mp_statements.specs.declared.kind.NameKind.{NameKind};
 ghost use Rattle.mp_statements.specs.Parts.{is_kind};
 ghost use Rattle.mp_syntax.specs.Syntax as s;

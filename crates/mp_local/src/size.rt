@@ -1,5 +1,5 @@
 // How high and how large the equations of a model are.
-ghost use Rattle.std.specs.Prelude.{◌≡◌, ◌<◌, ◌≤◌, ◌^◌, map, min, sum, length, slice_index, IfOk};
+ghost use Rattle.std.specs.Prelude.{◌≡◌, ◌<◌, ◌≤◌, ◌^◌, map, min, sum, length, IfOk};
 ghost use Rattle.std.specs.List.{All, AllByRecursion};
 ghost use Rattle.mp_model_data.specs.Shown.{sides_of, model_data};
 ghost use Rattle.mp_local.specs.Sizes.{greatest, greatest_height, operations, side_rows};

@@ -1,5 +1,5 @@
 // The value of an expression.
-ghost use Rattle.std.specs.Prelude.{◌≡◌, IfOk, Ok};
+ghost use Rattle.std.specs.Prelude.{Ok};
 ghost use Rattle.mp_mvalue.specs.Environments.{value_in};
 ghost use Rattle.mp_mvalue.specs.Gives.{GivesValue};
 ghost use Rattle.mp_mvalue.specs.Shared.{unshared};

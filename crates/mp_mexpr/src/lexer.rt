@@ -1,5 +1,5 @@
 // From the bytes of an expression to its tokens.
-ghost use Rattle.std.specs.Prelude.{◌≡◌, ◌∷◌, ◌+◌, ◌≤◌, ◌<◌, length, IfOk, IfSome};
+ghost use Rattle.std.specs.Prelude.{◌≡◌, ◌+◌, ◌≤◌, ◌<◌, length, IfOk, IfSome};
 ghost use Rattle.mp_mexpr.specs.Tokens.{tok_of, toks, pair_of, operator_of, mark_of, word_of, pair_at, sign_at, begun_of, quoted_at, token_at, tokens, opens, closes, is_deep};
 
 use crate::operator::Operator;

@@ -10,7 +10,7 @@ use Rattle.mp_tokens.specs.Literals.{decimal_of}
 use Rattle.mp_syntax.specs.declared.operator.Operator.TheVariants as o
 use Rattle.mp_syntax.specs.Syntax.{Number, Binary}
 use Rattle.mp_semantics.specs.Term as term
-use Rattle.mp_semantics.specs.Term.{Term, endogenous, exogenous, number, variable, plus, times, leaf, power_of}
+use Rattle.mp_semantics.specs.Term.{Term, endogenous, exogenous, variable, plus, leaf, power_of}
 use Rattle.mp_semantics.specs.Model as m
 use Rattle.mp_values.specs.Table.{Table}
 use Rattle.mp_values.specs.Names as v

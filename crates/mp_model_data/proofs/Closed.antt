@@ -1,9 +1,9 @@
 -- The leaves of equations in a graph are leaves of the graph.
-use Rattle.std.proofs.Common.{◌≡◌, ℕ, ◌<◌, List, [], ◌∷◌, map, length, IsTrue, refl, ap, sym, ◌∙◌, subst, arith, inl, inr}
+use Rattle.std.proofs.Common.{◌≡◌, ℕ, ◌<◌, List, [], ◌∷◌, map, length, refl, sym, subst, arith, inl, inr}
 use Rattle.std.specs.List.{AllByRecursion}
 use Rattle.std.proofs.lemmas.Bool.{lt-ltb}
 use Rattle.mp_semantics.specs.Term.{Leaf, number, parameter, variable, endogenous, exogenous, steady_state, Term, leaf, negative, binary, power_of, pick}
-use Rattle.mp_graph.specs.Shared.{Shared, term_at}
+use Rattle.mp_graph.specs.Shared.{term_at}
 use Rattle.mp_graph.specs.Part.{IsPart, HasParts}
 use Rattle.mp_graph.specs.Readable.{IsNamedLeaf}
 use Rattle.mp_solutions.specs.Leaves.{AllLeaves, AllEquationLeaves}

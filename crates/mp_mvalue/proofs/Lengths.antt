@@ -1,5 +1,5 @@
 -- How long and how deep arrays are.
-use Rattle.std.proofs.Common.{◌≡◌, ℕ, suc, ◌+◌, ◌∷◌, [], ◌++◌, map, max, min, refl, sym, ap, ◌∙◌, codes, List, length, length-append, arith, rules}
+use Rattle.std.proofs.Common.{◌≡◌, ℕ, suc, ◌+◌, ◌∷◌, [], ◌++◌, map, max, refl, ap, ◌∙◌, codes, List, length, length-append, arith, rules}
 use Rattle.mp_mvalue.specs.declared.value.Value.{Value}
 use Rattle.mp_mvalue.specs.declared.sharing.SharedValue.{SharedValue}
 use Rattle.mp_mvalue.specs.Shared.{unshared}

@@ -18,7 +18,7 @@ pub struct Env {
 }
 
 impl Model for Env {
-    ghost use Rattle.std.specs.Prelude.{List, ℕ, map};
+    ghost use Rattle.std.specs.Prelude.{map};
     ghost use Rattle.std.specs.Coded.{codes};
     ghost use Rattle.mp_mvalue.specs.Environments.{Environment};
     ghost use Rattle.mp_mvalue.specs.contracts.value.Value as v;

@@ -1,5 +1,5 @@
 -- Keys that are distinct as their bytes are.
-use Rattle.std.proofs.Common.{◌≡◌, ℕ, List, [], ◌∷◌, map, Bool, false}
+use Rattle.std.proofs.Common.{◌≡◌, List, [], ◌∷◌, map, Bool, false}
 use Rattle.std.specs.List.{IsDistinct, AllByRecursion}
 
 module _ {K Y : Type 0} (f : K → Y) (e : Y → Y → Bool) where

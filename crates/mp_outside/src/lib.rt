@@ -1,7 +1,7 @@
 //! What a run reads and writes: files and sinks, in memory and of the system (modpath's own).
 #![tactic(auto)]
 
-ghost use Rattle.std.specs.Prelude.{◌≡◌, ◌≤◌, ◌<◌, List, ℕ, Option, length};
+ghost use Rattle.std.specs.Prelude.{◌≡◌, ◌≤◌, ◌<◌};
 ghost use Rattle.mp_outside.specs.Outside.{Outside, Held, Later, FetchSays, FetchCounts, PutSays, Written};
 
 use mp_base::Bytes;

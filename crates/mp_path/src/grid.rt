@@ -1,5 +1,5 @@
 // The values of a path.
-ghost use Rattle.std.specs.Prelude.{◌≡◌, ◌+◌, ◌-◌, ◌*◌, ◌≤◌, ◌<◌, ℕ, ℤ, pos, replicate, slice_get, option_map, length, Some, IsSome, IfOk};
+ghost use Rattle.std.specs.Prelude.{◌≡◌, ◌+◌, ◌-◌, ◌*◌, ◌≤◌, ◌<◌, ℤ, pos, replicate, slice_get, option_map, length, Some, IsSome, IfOk};
 ghost use Rattle.mp_expr.specs.Shown.{place_of, variable_of};
 ghost use Rattle.mp_semantics.specs.Term.{Variable, endogenous};
 ghost use Rattle.mp_semantics.specs.Solves.{is_inside};

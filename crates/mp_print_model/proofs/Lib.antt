@@ -1,4 +1,3 @@
-pub mod Digits
 pub mod Operations
 pub mod Places
 pub mod Whole

@@ -4,7 +4,7 @@ use Rattle.std.specs.Fmt.{decimal}
 use Rattle.mp_canonical.specs.Numbers.{padded, pointed, number_text}
 use borrow.Author.Tests.{ne_eqb}
 use Rattle.mp_expr.specs.Shown.{place_of}
-use Rattle.mp_print_model.proofs.Digits.{decimal_of_any_size}
+use Rattle.mp_solutions.proofs.Digits.{decimal_of_any_size}
 
 pub number_with_places : (m s : ℕ) (digits : List ℕ) → m < 2 ^ 128 → (s ≡ 0 → ⊥) → digits ≡ decimal m → pointed s (padded (s + 1) digits) ≡ number_text m s
 number_with_places m zero digits small some is = absurd (some refl)

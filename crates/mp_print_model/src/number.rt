@@ -9,7 +9,7 @@ use itoa::Buffer;
 use mp_base::{Bytes, NoMemory};
 use mp_frac::Frac;
 
-#[tactic(auto, using(crate::proofs::Digits::decimal_of_any_size))]
+#[tactic(auto, using(mp_solutions::proofs::Digits::decimal_of_any_size))]
 fn put_digits(out: &mut Bytes, n: u128) -> Result<(), NoMemory>
     ensures { OnOk result (out.new ≡ out.old ++ decimal_digits n) }
 {

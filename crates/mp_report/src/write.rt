@@ -35,7 +35,7 @@ fn write_header(writer: &mut Writer<Vec<u8>>) -> Result<(), NoMemory>
     write_row(writer, b"equation", b"variable", b"shift", b"derivative")
 }
 
-#[tactic(auto, using(crate::proofs::Digits::decimal_of_any_size, crate::proofs::Digits::whole_of_any_size))]
+#[tactic(auto, using(mp_solutions::proofs::Digits::decimal_of_any_size, crate::proofs::Digits::whole_of_any_size))]
 fn write_derivative(writer: &mut Writer<Vec<u8>>, derivative: &Derivative) -> Result<(), NoMemory>
     requires { IsReady writer.old }
     ensures ready { OnOk result (IsReady writer.new) }

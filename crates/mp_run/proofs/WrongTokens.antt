@@ -1,5 +1,5 @@
 -- A run that refuses a token tells the first wrong one.
-use Rattle.std.proofs.Common.{◌≡◌, ℕ, List, [], Option, Some, None, Result, Ok, Err, refl, sym, ap, ◌∙◌}
+use Rattle.std.proofs.Common.{◌≡◌, ℕ, List, Option, Some, None, Result, Ok, Err, refl, sym, ap}
 use Rattle.mp_base.specs.declared.outcome.Outcome.{Outcome}
 use Rattle.mp_base.specs.declared.outcome.Outcome.TheVariants.{Refused}
 use Rattle.mp_base.specs.declared.refusal.Refusal.TheVariants as o
@@ -13,7 +13,7 @@ use Rattle.mp_transform.specs.Steps.{Step, and_then}
 use Rattle.mp_transform.specs.declared.output.Output.TheVariants as out
 use Rattle.mp_transform.specs.Wrong.{ShowsWrongToken}
 use Rattle.mp_transform.proofs.WrongTokens.{wrong_shown}
-use Rattle.mp_run.specs.Verdict.{answer_of, words_step, expansion_step, job_gives, request_gives, run_gives, verdict}
+use Rattle.mp_run.specs.Verdict.{answer_of, words_step, expansion_step, job_gives, request_gives, run_gives}
 use Rattle.mp_run.specs.Answers.{AsVerdict}
 use Rattle.mp_run.specs.Wrong.{IsFirstWrong, TellsWrongToken}
 

@@ -1,5 +1,5 @@
 // The text that a job works on.
-ghost use Rattle.std.specs.Prelude.{◌≡◌, ◌≤◌, length, IfOk, MatchResult};
+ghost use Rattle.std.specs.Prelude.{◌≤◌, length, IfOk, MatchResult};
 ghost use Rattle.mp_outside.specs.Outside.{Later};
 ghost use Rattle.mp_macro.specs.Expansion.{expands};
 ghost use Rattle.mp_run.specs.Verdict.{expansion_step};

@@ -1,5 +1,5 @@
 // All columns, and then all answers.
-ghost use Rattle.std.specs.Prelude.{◌≡◌, ℕ, ◌+◌, ◌-◌, ◌*◌, ◌^◌, ◌<◌, ◌≤◌, min};
+ghost use Rattle.std.specs.Prelude.{◌≡◌, ◌+◌, ◌-◌, ◌*◌, ◌^◌, ◌<◌, ◌≤◌, min};
 ghost use Rattle.mp_turns.specs.Turns.{each, each_down};
 ghost use Rattle.mp_elim.specs.Elimination.{column as column_of, answered, whole};
 ghost use Rattle.mp_elim.specs.Shape.{IsTridiagonal, IsSmall, low_of, past_of};

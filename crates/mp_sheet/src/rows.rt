@@ -1,7 +1,7 @@
 // One row less a multiple of another.
 ghost use Rattle.std.specs.Prelude.{◌≡◌, ℕ, ◌+◌, ◌-◌, ◌*◌, ◌^◌, ◌<◌, ◌≤◌};
 ghost use Rattle.mp_turns.specs.Turns.{each};
-ghost use Rattle.mp_elim.specs.Elimination.{lessened, less_row, cleared, pivot_of};
+ghost use Rattle.mp_elim.specs.Elimination.{lessened, less_row, cleared};
 ghost use Rattle.mp_sheet.specs.Layout.{IsKept, place_of, system_of};
 ghost use Rattle.mp_sheet.specs.Walks.{Leads};
 

@@ -1,4 +1,3 @@
-pub mod Digits
 pub mod Shifts
 pub mod Listed
 pub mod Faults

@@ -30,7 +30,7 @@ fn put_direction(out: &mut Bytes, direction: Direction) -> Result<(), NoMemory>
     }
 }
 
-#[tactic(auto, using(crate::proofs::Digits::decimal_of_any_size))]
+#[tactic(auto, using(mp_solutions::proofs::Digits::decimal_of_any_size))]
 fn put_digits(out: &mut Bytes, n: u64) -> Result<(), NoMemory>
     ensures { OnOk result (out.new ≡ out.old ++ decimal_digits n) }
 {

@@ -5,7 +5,7 @@ ghost use Rattle.mp_file.specs.Shown.{file_of, statement_of, named_of};
 ghost use Rattle.mp_model_data.specs.Shown.{model_data};
 ghost use Rattle.mp_shift.specs.declared.fault.ShiftFault.TheVariants.{Declared};
 ghost use Rattle.mp_shift.specs.Called.{auxiliary_of, call, AreOf};
-ghost use Rattle.mp_shift.specs.Faults.{place_among, place_in, declared_at, auxiliary_fault, naming_faults, name_fault, naming_fault, Tells};
+ghost use Rattle.mp_shift.specs.Faults.{place_among, place_in, declared_at, naming_faults, name_fault, naming_fault, Tells};
 
 use crate::fault::ShiftFault;
 use crate::list::{Auxiliaries, listed};

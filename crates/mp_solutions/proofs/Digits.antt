@@ -1,7 +1,7 @@
 -- The decimal digits of a number of any size: digits, which write the number.
-use Rattle.std.proofs.Common.{◌≡◌, ℕ, zero, suc, ◌+◌, ◌-◌, ◌*◌, ◌/◌, ◌%◌, ◌<◌, ◌≤◌, List, [], ◌∷◌, ◌++◌, cond, false, fold, refl, sym, ap, ◌∙◌, subst, ⊎_elim, arith, append_assoc, eq-eqb, ne_eqb, lt-ltb}
+use Rattle.std.proofs.Common.{◌≡◌, ℕ, zero, suc, ◌+◌, ◌-◌, ◌*◌, ◌/◌, ◌%◌, ◌^◌, ◌<◌, ◌≤◌, List, [], ◌∷◌, ◌++◌, cond, false, fold, refl, sym, ap, ◌∙◌, subst, ⊎_elim, arith, append_assoc, eq-eqb, ne_eqb, lt-ltb}
 use Rattle.std.specs.List.{AllByRecursion as Each}
-use Rattle.std.specs.Fmt.{digits_onto, digit_glyph}
+use Rattle.std.specs.Fmt.{digits, digits_onto, digit_glyph, decimal}
 use Rattle.std.proofs.lemmas.Bool.{cases_lt}
 use Rattle.mp_solutions.specs.Auxiliaries.{decimal_digits}
 use Rattle.mp_solutions.proofs.Lists.{each_append}
@@ -57,6 +57,20 @@ spell-append (suc k) n rest = ⊎_elim
     (λ low. spell_last k n rest low ∙ ap (λ l. l ++ rest) (sym (spell_last k n [] low)))
     (λ high. spell_next k n rest high ∙ spell-append k (n / 10) (last_glyph n ∷ rest) ∙ sym (append_assoc (spell k (n / 10) []) (last_glyph n ∷ []) rest) ∙ ap (λ l. l ++ rest) (sym (spell_next k n [] high ∙ spell-append k (n / 10) (last_glyph n ∷ []))))
     (cases_lt n 10)
+
+-- how many digits there may be does not matter where there may be enough
+spell_enough : (j k n : ℕ) (rest : List ℕ) → n < 10 ^ suc j → n ≤ k → spell (suc j) n rest ≡ spell (suc k) n rest
+spell_enough zero k n rest p q = spell_last zero n rest (omega arith) ∙ sym (spell_last k n rest (omega arith))
+spell_enough (suc j) zero n rest p q = spell_last (suc j) n rest (omega arith) ∙ sym (spell_last zero n rest (omega arith))
+spell_enough (suc j) (suc k) n rest p q = ⊎_elim
+    (λ low. spell_last (suc j) n rest low ∙ sym (spell_last (suc k) n rest low))
+    (λ high. spell_next (suc j) n rest high ∙ spell_enough j k (n / 10) (last_glyph n ∷ rest) (omega arith) (omega arith) ∙ sym (spell_next (suc k) n rest high))
+    (cases_lt n 10)
+
+-- what the standard library writes, with 64 digits at most
+pub decimal_of_any_size : (n : ℕ) → n < 2 ^ 128 → decimal n ≡ decimal_digits n
+unfolding digits
+decimal_of_any_size n small = spell_enough 63 n n [] (omega arith) (omega arith)
 
 spelled_writes : (k n : ℕ) → n < k → Writes n (spell k n [])
 spelled_writes zero n small = absurd (omega arith)

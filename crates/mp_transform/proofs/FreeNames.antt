@@ -1,5 +1,5 @@
 -- The names of auxiliaries that the code has found are free.
-use Rattle.std.proofs.Common.{◌≡◌, ℕ, ◌≤◌, List, [], ◌∷◌, map, length, Bool, true, false, cond, Option, Some, None, bytes_eq, refl, subst, sym, ap}
+use Rattle.std.proofs.Common.{◌≡◌, ℕ, ◌≤◌, List, [], ◌∷◌, map, length, Bool, true, false, cond, Option, Some, None, bytes_eq, refl, subst}
 use Rattle.std.specs.List.{AllByRecursion, list_any}
 use Rattle.std.specs.List as std
 use Rattle.mp_statements.specs.declared.kind.NameKind.{NameKind}
@@ -9,7 +9,7 @@ use Rattle.mp_solutions.specs.Auxiliaries as a
 use Rattle.mp_solutions.specs.Auxiliaries.{auxiliaries_of, auxiliary_name}
 use Rattle.mp_values.specs.Names.{Names}
 use Rattle.mp_names.specs.Named.{kind_in}
-use Rattle.mp_canonical.specs.Printable.{model_names, IsFree, HasFreeNames}
+use Rattle.mp_canonical.specs.Printable.{IsFree, HasFreeNames}
 use Rattle.mp_shift.specs.Called.{Called, call, names_in, AreOf}
 use Rattle.mp_shift.proofs.Named.{distinct_places}
 

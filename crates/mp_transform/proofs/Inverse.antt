@@ -1,5 +1,5 @@
 -- What came before the last step.
-use Rattle.std.proofs.Common.{◌≡◌, ℕ, pos, ◌≤◌, ◌^◌, max, min, cond, List, [], ◌∷◌, map, length, true, false, Bool, Some, None, Option, Result, Ok, Err, refl, sym, ap, ◌∙◌, subst, arith, nat_le, if◌then◌else◌}
+use Rattle.std.proofs.Common.{◌≡◌, ℕ, pos, ◌≤◌, ◌^◌, max, min, cond, List, [], ◌∷◌, map, length, true, false, Bool, Some, None, Result, Ok, Err, refl, sym, ap, ◌∙◌, subst, arith, nat_le, if◌then◌else◌}
 use Rattle.std.specs.List.{AllByRecursion}
 use Rattle.std.specs.Result.{IfOk}
 use Rattle.mp_base.specs.declared.refusal.Refusal.{Refusal}
@@ -17,7 +17,7 @@ use Rattle.mp_values.specs.ModelOf.{model_given, model_of}
 use Rattle.mp_canonical.specs.Files.{canonical_text}
 use Rattle.mp_canonical.specs.Printable.{IsLow, HasFreeNames}
 use Rattle.mp_model.specs.Headline.{KeepsSolutions}
-use Rattle.mp_derivatives.specs.Records.{Derivation, records_text}
+use Rattle.mp_derivatives.specs.Records.{records_text}
 use Rattle.mp_derivatives.specs.Derivatives.{derivatives, operations, derivations, derivatives_text}
 use Rattle.mp_derivatives.specs.Derived.{HaveDerivatives, derived}
 use Rattle.mp_derivatives.specs.Listed.{ListsDerivatives}

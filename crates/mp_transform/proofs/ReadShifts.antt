@@ -1,5 +1,5 @@
 -- In a file each name is shifted by at most the greatest whole number of its tokens, and stands in at most 500 `diff`.
-use Rattle.std.proofs.Common.{◌≡◌, ℕ, zero, suc, ◌+◌, ◌≤◌, pos, neg_ℤ, unsigned_abs, List, [], ◌∷◌, ◌++◌, Bool, true, false, inl, inr, Option, Some, None, cond, flat_map, refl, sym, subst, arith, le_trans}
+use Rattle.std.proofs.Common.{◌≡◌, ℕ, zero, suc, ◌+◌, ◌≤◌, unsigned_abs, List, [], ◌∷◌, ◌++◌, true, inl, inr, Option, Some, None, flat_map, sym, subst, arith, le_trans}
 use Rattle.std.specs.List.{AllByRecursion}
 use Rattle.std.proofs.lemmas.List.Concat.{flat_map-append}
 use Rattle.mp_tokens.specs.declared.terminal.Terminal.TheVariants as t
@@ -11,17 +11,17 @@ use Rattle.mp_syntax.specs.declared.operator.Operator.{Operator}
 use Rattle.mp_syntax.specs.declared.operator.Function.{Function}
 use Rattle.mp_syntax.specs.Syntax.{Shift, Named, Expr, Variable, Paren, Call, Binary, Diff, Further, with_further, signed}
 use Rattle.mp_statements.specs.declared.kind.NameKind.{NameKind}
-use Rattle.mp_statements.specs.Statements.{Equation, Item, Local, Equates, Statement}
+use Rattle.mp_statements.specs.Statements.{Equation, Item, Statement}
 use Rattle.mp_statements.specs.Parts.{items_in, items_of}
 use Rattle.mp_statements.specs.Sides.{right_side, sides}
 use Rattle.mp_format.specs.Format.{Format, Of, sees, both, choose, opt, many, via, Every, Made}
-use Rattle.mp_format.specs.Notation.{of, ◌⊗◌}
+use Rattle.mp_format.specs.Notation.{of}
 use Rattle.mp_format.proofs.Whole.{whole-made}
 use Rattle.mp_format.proofs.MadeLaws.{made}
-use Rattle.mp_expressions.specs.Productions.{Whole, expr, sign_format}
+use Rattle.mp_expressions.specs.Productions.{Whole, expr}
 use Rattle.mp_expressions.specs.Expressions.{shift, literal, flat_atom, pair, fenced, shift_part, closed, inside, atom, raised, power, factor, times, product, plus, sum}
 use Rattle.mp_expressions.proofs.Atoms.{flat_writing, sum_writing}
-use Rattle.mp_grammar.specs.Productions.{decl, declared, declares, assigns, local, equation, item, model, notes, statement, statements}
+use Rattle.mp_grammar.specs.Productions.{declared, declares, assigns, local, equation, item, model, notes, statement, statements}
 use Rattle.mp_grammar.specs.Levels.{expression, flat, deeper}
 use Rattle.mp_grammar.specs.Grammar.{ReadsFile}
 use Rattle.mp_values.specs.Names.{along, shift_of}

@@ -1,5 +1,5 @@
 // What is written of a transformed model.
-ghost use Rattle.std.specs.Prelude.{◌≡◌, ◌≤◌, ◌^◌, pos, Ok, MatchResult};
+ghost use Rattle.std.specs.Prelude.{◌≡◌, ◌≤◌, ◌^◌, Ok, MatchResult};
 ghost use Rattle.mp_model_data.specs.Shown.{model_data};
 ghost use Rattle.mp_derivatives.specs.Records.{records_text};
 ghost use Rattle.mp_derivatives.specs.Derived.{HaveDerivatives};

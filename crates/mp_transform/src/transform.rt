@@ -1,6 +1,6 @@
 // From a text to what is written of its transformed model: each step gives what the next one needs, or the outcome that ends
 // the run.
-ghost use Rattle.std.specs.Prelude.{◌≡◌, ◌<◌, ◌≤◌, ◌-◌, ◌^◌, length, None, Ok, IfOk, MatchResult};
+ghost use Rattle.std.specs.Prelude.{◌≡◌, ◌<◌, ◌-◌, ◌^◌, length, None, Ok, IfOk, MatchResult};
 ghost use Rattle.mp_tokens.specs.Literals.{far_literal};
 ghost use Rattle.mp_file.specs.Shown.{file_of};
 ghost use Rattle.mp_statements.specs.Parts.{items_of};

@@ -1,5 +1,5 @@
 // The items of a model.
-ghost use Rattle.std.specs.Prelude.{◌≡◌, [], ◌∷◌, ◌++◌, map, IfOk, OnOk};
+ghost use Rattle.std.specs.Prelude.{◌≡◌, [], ◌∷◌, map, IfOk};
 ghost use Rattle.std.specs.List.{AllByRecursion};
 ghost use Rattle.mp_statements.specs.Parts.{items_in, items_of};
 ghost use Rattle.mp_file.specs.Shown.{item_of, statement_of, file_of};

@@ -1,4 +1,4 @@
-use Rattle.std.proofs.Common.{◌<◌, ◌≤◌, length}
+use Rattle.std.proofs.Common.{◌≤◌, length}
 use Rattle.graph_bench.proofs.negated.Given as goal
 
 abbrev pub invariant-roots : goal.invariant-roots

@@ -1,10 +1,9 @@
-use Rattle.std.proofs.Common.{◌≡◌, ◌<◌, ◌^◌, ℕ, List, min, length, map, ap, sym, ◌∙◌, subst}
-use Rattle.std.specs.List.{AllByRecursion, sum_by}
+use Rattle.std.proofs.Common.{◌<◌, ℕ, List, length, map, ap, sym, ◌∙◌, subst}
+use Rattle.std.specs.List.{AllByRecursion}
 use Rattle.mp_slopes.specs.Derivative.{HasDerivative}
 use Rattle.mp_graph.specs.Shared.{Shared, term_at}
 use Rattle.mp_model_data.specs.Shown.{sides_of}
 use Rattle.mp_derivatives.specs.Derivatives.{derivation}
-use Rattle.mp_derive.specs.Counted.{all_operations}
 use Rattle.mp_derive.specs.Listed.{derivatives_by}
 use Rattle.mp_derive.proofs.Counts.{counted}
 use Rattle.mp_derive.proofs.Derived.{of_model, roots_have, too_many, all_are}

@@ -1,8 +1,6 @@
-use Rattle.std.proofs.Common.{◌≡◌, ◌^◌, ℕ, List, min, map, ap, ◌∙◌}
-use Rattle.std.specs.List.{sum_by}
-use Rattle.mp_graph.specs.Shared.{Shared, term_at}
+use Rattle.std.proofs.Common.{map, ap, ◌∙◌}
+use Rattle.mp_graph.specs.Shared.{term_at}
 use Rattle.mp_model_data.specs.Shown.{sides_of}
-use Rattle.mp_derive.specs.Counted.{all_operations}
 use Rattle.mp_derive.proofs.Counts.{counted}
 use Rattle.mp_derive.proofs.Derived.{of_model, too_many, few_enough}
 use Rattle.mp_derive.proofs.derive.tested.Goals as goal

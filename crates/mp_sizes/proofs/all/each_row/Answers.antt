@@ -1,5 +1,4 @@
-use Rattle.std.proofs.Common.{◌∙◌, sym, subst, ◌≤◌, ◌<◌, length, take, arith}
-use Rattle.std.specs.List.{AllZip}
+use Rattle.std.proofs.Common.{arith}
 use Rattle.mp_sizes.proofs.Each.{zip_count, zip_rows, zip_more}
 use Rattle.mp_sizes.proofs.all.each_row.Goals as goal
 
