@@ -7,12 +7,12 @@ use crate::tell::{Tell, tell_fault};
 use anyhow::{Result, bail};
 use mp_base::Steps;
 use mp_eval::Scratch;
-use mp_eval_tests::added::Refused;
-use mp_eval_tests::evaluated::{answered, evaluated};
-use mp_eval_tests::frame::Frame;
-use mp_eval_tests::ready::Ready;
 use mp_fix::{Fix, Iv};
 use mp_graph::{Graph, NodeId};
+use mp_trial::added::Refused;
+use mp_trial::evaluated::{answered, evaluated};
+use mp_trial::frame::Frame;
+use mp_trial::ready::Ready;
 use std::alloc::Global;
 use std::sync::ledger::Ledger;
 

@@ -1,9 +1,9 @@
 // The nodes of a text.
 
 use crate::numbers::Numbers;
-use mp_eval_tests::added::{Refused, added};
 use mp_expr::VarId;
 use mp_graph::{BinaryOp, Graph, LeafOp, NodeId, NodeOp};
+use mp_trial::added::{Refused, added};
 use std::alloc::Global;
 
 /// Adds so many nodes, and gives their numbers by their places in the text.

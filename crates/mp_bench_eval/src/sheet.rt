@@ -3,12 +3,12 @@ ghost use Rattle.std.specs.Prelude.{◌≡◌, ◌≤◌};
 
 use crate::numbers::Numbers;
 use mp_base::NoMemory;
-use mp_eval_tests::added::Refused;
-use mp_eval_tests::frame::Frame;
 use mp_fix::Fix;
 use mp_frac::Frac;
 use mp_names::Names;
 use mp_statements::NameKind;
+use mp_trial::added::Refused;
+use mp_trial::frame::Frame;
 use std::alloc::Global;
 
 /// How many periods beside the horizon the boundary has for each variable.

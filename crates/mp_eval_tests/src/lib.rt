@@ -1,9 +1,5 @@
-//! Evaluation behind tests of all that it asks, and tests of it.
+//! Tests of evaluation.
 #![tactic(auto)]
 
-pub mod added;
-pub mod evaluated;
-pub mod frame;
-pub mod ready;
 #[cfg(test)]
 mod tests;

@@ -2,10 +2,6 @@
 // function, since a proof grows with each place where a graph is dropped.
 ghost use Rattle.std.specs.Prelude.{◌≡◌, ◌<◌};
 
-use crate::added::{Refused, added, chain};
-use crate::evaluated::{Answer, answered};
-use crate::frame::Frame;
-use crate::ready::Ready;
 use mp_base::{FixFault, Op, Steps};
 use mp_eval::{EvalFault, Kind};
 use mp_expr::VarId;
@@ -14,6 +10,10 @@ use mp_frac::Frac;
 use mp_graph::{BinaryOp, Graph, LeafOp, NodeId, NodeOp};
 use mp_names::Names;
 use mp_statements::NameKind;
+use mp_trial::added::{Refused, added, chain};
+use mp_trial::evaluated::{Answer, answered};
+use mp_trial::frame::Frame;
+use mp_trial::ready::Ready;
 use std::alloc::Global;
 use std::marker::Brand;
 use std::process::Abort;

@@ -1,6 +1,6 @@
 use Rattle.std.proofs.Common.{rules, ◌≡◌, ◌-◌}
-use Rattle.mp_eval_tests.proofs.Slots.{slots_put}
-use Rattle.mp_eval_tests.proofs.frame.Frame.set.Goals as goal
+use Rattle.mp_trial.proofs.Slots.{slots_put}
+use Rattle.mp_trial.proofs.frame.Frame.set.Goals as goal
 
 -- src/frame.rt:78:5
 pub invariant_of-self : goal.invariant_of-self

@@ -2,8 +2,8 @@ use Rattle.std.proofs.Common.{rules, ◌≡◌, ◌∙◌, ◌*◌, pos, length,
 use Rattle.std.proofs.lemmas.List.{length-map}
 use Rattle.mp_frac.specs.Value.{value_of}
 use Rattle.mp_path.specs.Edges.{Edges}
-use Rattle.mp_eval_tests.proofs.Slots.{slots_new}
-use Rattle.mp_eval_tests.proofs.frame.Frame.new.Goals as goal
+use Rattle.mp_trial.proofs.Slots.{slots_new}
+use Rattle.mp_trial.proofs.frame.Frame.new.Goals as goal
 
 -- src/frame.rt:61:9
 pub invariant_of-result : goal.invariant_of-result

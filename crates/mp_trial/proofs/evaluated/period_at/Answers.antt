@@ -4,7 +4,7 @@ use Rattle.mp_walk.specs.Cells.{cell_at}
 use Rattle.mp_path.specs.Points.{Points, cells_of}
 use Rattle.mp_graph.specs.Shared.{term_at}
 use Rattle.mp_eval.specs.Given.{IsGiven}
-use Rattle.mp_eval_tests.proofs.evaluated.period_at.Goals as goal
+use Rattle.mp_trial.proofs.evaluated.period_at.Goals as goal
 
 pub period-requires-clause-given : goal.period-requires-clause-given
 period-requires-clause-given g c i l =

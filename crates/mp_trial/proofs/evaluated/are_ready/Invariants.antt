@@ -5,7 +5,7 @@ use Rattle.mp_walk.specs.Walk.{size}
 use Rattle.mp_path.specs.Points.{cells_of}
 use Rattle.mp_graph.specs.Shared.{term_at}
 use Rattle.mp_eval.specs.Given.{IsGiven}
-use Rattle.mp_eval_tests.proofs.evaluated.are_ready.Given as goal
+use Rattle.mp_trial.proofs.evaluated.are_ready.Given as goal
 
 abbrev pub invariant-roots : goal.invariant-roots
 invariant-roots l = record {

@@ -10,7 +10,7 @@ use Rattle.mp_semantics.specs.Solves.{is_inside, is_near}
 use Rattle.mp_walk.specs.Cells.{Cell, units}
 use Rattle.mp_path.specs.Edges.{Edges, edge_of, outside_to}
 use Rattle.mp_path.specs.Points.{Points, point_of, slot_place}
-use Rattle.mp_eval_tests.specs.Full.{IsFull}
+use Rattle.mp_trial.specs.Full.{IsFull}
 
 number_in : Variable → ℕ
 number_in (endogenous v) = v

@@ -1,5 +1,5 @@
 use Rattle.std.proofs.Common.{◌≡◌, length}
-use Rattle.mp_eval_tests.proofs.evaluated.evaluated.Given as goal
+use Rattle.mp_trial.proofs.evaluated.evaluated.Given as goal
 
 abbrev pub invariant-turns : goal.invariant-turns
 invariant-turns g l = record {

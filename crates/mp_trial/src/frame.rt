@@ -29,7 +29,7 @@ pub struct Frame {
 impl Model for Frame {
     ghost use Rattle.std.specs.Prelude.{◌≡◌};
     ghost use Rattle.mp_path.specs.Points.{Points, points_code};
-    ghost use Rattle.mp_eval_tests.specs.Full.{IsFull};
+    ghost use Rattle.mp_trial.specs.Full.{IsFull};
 
     ghost Value = { Points };
 

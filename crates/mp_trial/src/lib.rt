@@ -1,0 +1,7 @@
+//! Evaluation behind tests of all that it asks.
+#![tactic(auto)]
+
+pub mod added;
+pub mod evaluated;
+pub mod frame;
+pub mod ready;
