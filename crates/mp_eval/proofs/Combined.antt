@@ -10,7 +10,7 @@ use Rattle.mp_walk.proofs.Shift.{walk_shift}
 use Rattle.mp_graph.specs.declared.op.NodeOp.{NodeOp}
 use Rattle.mp_graph.specs.declared.op.NodeOp.TheVariants as node
 use Rattle.mp_graph.specs.Op.{arity, kid, over, binary_of}
-use Rattle.mp_eval.specs.Rows.{combined, size_over}
+use Rattle.mp_eval.specs.Rows.{pair, combined, size_over}
 
 next_is : {X Y F : Type 0} (p q : Result X F) (f g : X → Result Y F) → p ≡ q → ((x : X) → f x ≡ g x) → next p f ≡ next q g
 next_is p q f g e h = ap (λ r. next r f) e ∙ by q
@@ -26,6 +26,19 @@ kid_is : {X C : Type 0} (A : Arithmetic X C) (read : Leaf → Option Cell) (v : 
     → v ≡ walk A read e 0 → k ≡ m → shifted k v ≡ walk A read e m
 kid_is A read v e k m h f = ap (shifted k) h ∙ sym (walk_shift A read e m 0 k (omega (arith, f)))
 
+-- what follows two kids follows the second one
+pair_next : {X Y C : Type 0} (v : ℕ → Result X (Fault C)) (s : ℕ → ℕ) (before a b : ℕ) (f : X × X → Result Y (Fault C))
+    → next (pair v s before a b) f ≡ next (shifted before (v a)) (λ x. next (shifted (before + s a) (v b)) (λ y. f (x, y)))
+pair_next v s before a b f = by_first (shifted before (v a))
+  where
+    by_second : (x : _) (r : Result _ _) → next (next r (λ y. Ok (x, y))) f ≡ next r (λ y. f (x, y))
+    by_second x (Ok y) = refl
+    by_second x (Err e) = refl
+
+    by_first : (r : Result _ _) → next (next r (λ x. next (shifted (before + s a) (v b)) (λ y. Ok (x, y)))) f ≡ next r (λ x. next (shifted (before + s a) (v b)) (λ y. f (x, y)))
+    by_first (Ok x) = by_second x (shifted (before + s a) (v b))
+    by_first (Err e) = refl
+
 -- what is known of the values and the sizes of the first n kids
 pub record Known {X C : Type 0} (A : Arithmetic X C) (read : Leaf → Option Cell) (v : ℕ → Result X (Fault C)) (s : ℕ → ℕ) (ts : List Term) (kids : List ℕ) (n : ℕ) : Type 0 where
   pub value : (j : ℕ) → j < n → v (slice_index kids j) ≡ walk A read (kid ts kids j) 0
@@ -38,8 +51,9 @@ combined_is A read v s ts node.Neg kids h = next_is _ _ _ _ (kid_is A read (v (s
 combined_is A read v s ts (node.Binary o) kids h =
     let p = h.sized 0 (omega arith) in
     let q = h.sized 1 (omega arith) in
-    next_is _ _ _ _ (kid_is A read (v (slice_index kids 0)) (kid ts kids 0) 0 0 (h.value 0 (omega arith)) refl)
-    (λ x. next_is _ _ _ _ (kid_is A read (v (slice_index kids 1)) (kid ts kids 1) (s (slice_index kids 0)) (0 + size (kid ts kids 0)) (h.value 1 (omega arith)) (omega (arith, p)))
+    pair_next v s 0 (slice_index kids 0) (slice_index kids 1) _
+    ∙ next_is _ _ _ _ (kid_is A read (v (slice_index kids 0)) (kid ts kids 0) 0 0 (h.value 0 (omega arith)) refl)
+    (λ x. next_is _ _ _ _ (kid_is A read (v (slice_index kids 1)) (kid ts kids 1) (0 + s (slice_index kids 0)) (0 + size (kid ts kids 0)) (h.value 1 (omega arith)) (omega (arith, p)))
     (λ y. at_is _ _ (named (binary_of o)) (A.both (binary_of o) x y) (omega (arith, p, q))))
 combined_is A read v s ts (node.Pow k) kids h =
     let p = h.sized 0 (omega arith) in
@@ -50,9 +64,11 @@ combined_is A read v s ts node.Pick kids h =
     let q = h.sized 1 (omega arith) in
     let r = h.sized 2 (omega arith) in
     let t = h.sized 3 (omega arith) in
-    next_is _ _ _ _ (kid_is A read (v (slice_index kids 0)) (kid ts kids 0) 0 0 (h.value 0 (omega arith)) refl)
-    (λ x. next_is _ _ _ _ (kid_is A read (v (slice_index kids 1)) (kid ts kids 1) (s (slice_index kids 0)) (0 + size (kid ts kids 0)) (h.value 1 (omega arith)) (omega (arith, p)))
-    (λ y. next_is _ _ _ _ (kid_is A read (v (slice_index kids 2)) (kid ts kids 2) (s (slice_index kids 0) + s (slice_index kids 1)) (0 + size (kid ts kids 0) + size (kid ts kids 1)) (h.value 2 (omega arith)) (omega (arith, p, q)))
+    pair_next v s 0 (slice_index kids 0) (slice_index kids 1) _
+    ∙ next_is _ _ _ _ (kid_is A read (v (slice_index kids 0)) (kid ts kids 0) 0 0 (h.value 0 (omega arith)) refl)
+    (λ x. next_is _ _ _ _ (kid_is A read (v (slice_index kids 1)) (kid ts kids 1) (0 + s (slice_index kids 0)) (0 + size (kid ts kids 0)) (h.value 1 (omega arith)) (omega (arith, p)))
+    (λ y. pair_next v s (s (slice_index kids 0) + s (slice_index kids 1)) (slice_index kids 2) (slice_index kids 3) _
+    ∙ next_is _ _ _ _ (kid_is A read (v (slice_index kids 2)) (kid ts kids 2) (s (slice_index kids 0) + s (slice_index kids 1)) (0 + size (kid ts kids 0) + size (kid ts kids 1)) (h.value 2 (omega arith)) (omega (arith, p, q)))
     (λ u. next_is _ _ _ _ (kid_is A read (v (slice_index kids 3)) (kid ts kids 3) (s (slice_index kids 0) + s (slice_index kids 1) + s (slice_index kids 2)) (0 + size (kid ts kids 0) + size (kid ts kids 1) + size (kid ts kids 2)) (h.value 3 (omega arith)) (omega (arith, p, q, r)))
     (λ w. at_is _ _ op.Pick (A.picked x y u w) (omega (arith, p, q, r, t))))))
 

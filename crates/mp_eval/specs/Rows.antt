@@ -3,7 +3,7 @@ use Rattle.std.specs.Prelude.{ℕ, ◌<◌, ◌≤◌, ◌+◌, ◌^◌, ◌≤�
 use Rattle.mp_base.specs.declared.kinds.FixFault.{FixFault}
 use Rattle.mp_base.specs.declared.kinds.FixFault.TheVariants as fix
 use Rattle.mp_base.specs.declared.kinds.Op.TheVariants as op
-use Rattle.mp_semantics.specs.Term.{Leaf}
+use Rattle.mp_semantics.specs.Term.{Leaf, Binary}
 use Rattle.mp_graph.specs.declared.op.LeafOp.{LeafOp}
 use Rattle.mp_graph.specs.declared.op.LeafOp.TheVariants.{Num, Param, Var, Anchor}
 use Rattle.mp_graph.specs.declared.op.NodeOp.{NodeOp}
@@ -46,18 +46,24 @@ pub record IsKnown {X : Type 0} (sizes : List ℕ) (values : List (Result X code
   pub valued : k < length values
   pub within : IsWithin (size_at sizes k) (slice_index_or values k none)
 
+-- what two kids give, one after the other, behind so many nodes
+abbrev pub pair : {X C : Type 0} → (ℕ → Result X (Fault C)) → (ℕ → ℕ) → ℕ → ℕ → ℕ → Result (X × X) (Fault C)
+pair v s before a b = next (shifted before (v a)) (λ x. next (shifted (before + s a) (v b)) (λ y. Ok (x, y)))
+
+-- what an operator gives of two kids, and `pick` of four
+abbrev pub of_two : {X C : Type 0} → Arithmetic X C → (ℕ → Result X (Fault C)) → (ℕ → ℕ) → Binary → ℕ → ℕ → Result X (Fault C)
+of_two A v s o a b = next (pair v s 0 a b) (λ p. at_node (s a + s b + 1) (named o) (A.both o p.0 p.1))
+
+abbrev pub of_four : {X C : Type 0} → Arithmetic X C → (ℕ → Result X (Fault C)) → (ℕ → ℕ) → ℕ → ℕ → ℕ → ℕ → Result X (Fault C)
+of_four A v s a b c d =
+    next (pair v s 0 a b) (λ p. next (pair v s (s a + s b) c d) (λ q. at_node (s a + s b + s c + s d + 1) op.Pick (A.picked p.0 p.1 q.0 q.1)))
+
 abbrev pub combined : {X C : Type 0} → Arithmetic X C → (Leaf → Option Cell) → (ℕ → Result X (Fault C)) → (ℕ → ℕ) → NodeOp → List ℕ → Result X (Fault C)
 combined A read v s (node.Leaf l) kids = of_cell A 1 (read (leaf_of l))
 combined A read v s node.Neg kids = next (shifted 0 (v (slice_index kids 0))) (λ x. Ok (A.negated x))
-combined A read v s (node.Binary o) kids =
-    next (shifted 0 (v (slice_index kids 0))) (λ x. next (shifted (s (slice_index kids 0)) (v (slice_index kids 1)))
-    (λ y. at_node (s (slice_index kids 0) + s (slice_index kids 1) + 1) (named (binary_of o)) (A.both (binary_of o) x y)))
+combined A read v s (node.Binary o) kids = of_two A v s (binary_of o) (slice_index kids 0) (slice_index kids 1)
 combined A read v s (node.Pow k) kids = next (shifted 0 (v (slice_index kids 0))) (λ x. at_node (s (slice_index kids 0) + 1) op.Pow (A.raised x k))
-combined A read v s node.Pick kids =
-    next (shifted 0 (v (slice_index kids 0))) (λ x. next (shifted (s (slice_index kids 0)) (v (slice_index kids 1)))
-    (λ y. next (shifted (s (slice_index kids 0) + s (slice_index kids 1)) (v (slice_index kids 2)))
-    (λ u. next (shifted (s (slice_index kids 0) + s (slice_index kids 1) + s (slice_index kids 2)) (v (slice_index kids 3)))
-    (λ w. at_node (s (slice_index kids 0) + s (slice_index kids 1) + s (slice_index kids 2) + s (slice_index kids 3) + 1) op.Pick (A.picked x y u w)))))
+combined A read v s node.Pick kids = of_four A v s (slice_index kids 0) (slice_index kids 1) (slice_index kids 2) (slice_index kids 3)
 
 -- how many nodes the term of an operator over these kids has
 abbrev pub size_over : (ℕ → ℕ) → NodeOp → List ℕ → ℕ
