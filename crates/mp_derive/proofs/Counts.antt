@@ -1,10 +1,9 @@
 -- How many operations the derivatives of residuals have.
-use Rattle.std.proofs.Common.{◌≡◌, ℕ, suc, ◌+◌, ◌^◌, min, List, [], ◌∷◌, ◌++◌, map, refl, ap, ◌∙◌, arith}
+use Rattle.std.proofs.Common.{◌≡◌, ℕ, suc, ◌+◌, List, [], ◌∷◌, ◌++◌, map, refl, arith}
 use Rattle.std.specs.List.{sum_by}
 use Rattle.std.proofs.lemmas.List.Sums.{sum_by-cons}
 use Rattle.mp_expr.specs.Size.{count_of}
 use Rattle.mp_semantics.specs.Term.{Term}
-use Rattle.mp_graph.specs.Shared.{Shared, term_at}
 use Rattle.mp_slopes.specs.Derivative.{derivative_of}
 use Rattle.mp_slopes.specs.Places.{Place, places}
 use Rattle.mp_derivatives.specs.Derivatives.{Derivative, derivatives_of, operations}
@@ -23,7 +22,3 @@ pub operations_are : (i : ℕ) (ts : List Term) → operations (derivatives_by i
 operations_are i [] = refl
 operations_are i (t ∷ ts) =
     omega (arith, operations-append (derivatives_of i t) (derivatives_by (suc i) ts), operations_at i t (places t), operations_are (suc i) ts, sum_by-cons all_operations t ts)
-
--- the count of these nodes, which were lent
-pub counted : (g : Shared) (roots lent : List ℕ) (count : ℕ) → lent ≡ roots → count ≡ min (sum_by all_operations (map (term_at g.terms) lent)) (10 ^ 37) → count ≡ min (sum_by all_operations (map (term_at g.terms) roots)) (10 ^ 37)
-counted g roots lent count same is = is ∙ ap (λ (rs : List ℕ). min (sum_by all_operations (map (term_at g.terms) rs)) (10 ^ 37)) same

@@ -5,25 +5,21 @@ ghost use Rattle.mp_graph.specs.Own.{AreOwn};
 ghost use Rattle.mp_graph.specs.Shared.{term_at, Keeps};
 ghost use Rattle.mp_slopes.specs.Derivative.{HasDerivative};
 ghost use Rattle.mp_diff.specs.Places.{place_shown};
-ghost use Rattle.mp_model_data.specs.Shown.{model_data};
-ghost use Rattle.mp_derivatives.specs.Derivatives.{derivation, derivatives_of};
-ghost use Rattle.mp_derivatives.specs.Derived.{HaveDerivatives, derived};
-ghost use Rattle.mp_derive.specs.Gives.{Gives, Tests};
+ghost use Rattle.mp_model_data.specs.Shown.{IsWithin, equation_in, model_data, sides_of};
+ghost use Rattle.mp_derivatives.specs.Derivatives.{derivation, derivatives_from, derivatives_of};
+ghost use Rattle.mp_derivatives.specs.Derived.{HaveDerivatives, SidesHaveDerivatives, derived};
+ghost use Rattle.mp_derive.specs.Gives.{AreFew, Gives, Tests};
 ghost use Rattle.mp_derive.specs.Listed.{derivative_by, derivatives_by};
 
-use crate::count::operations;
 use crate::fault::DeriveFault;
-use crate::residual::residuals;
+use crate::few::few_enough;
 use crate::slope::{Residual, derivative_at};
 use mp_base::NoMemory;
 use mp_diff::{Place, occurring_over};
 use mp_graph::{Graph, NodeId};
-use mp_model_data::{Model, Parts};
+use mp_model_data::{Equation, Model, Parts};
 use mp_report::Derivatives;
 use std::alloc::Global;
-
-// The most operations that the derivatives of a model may have together.
-const OPERATIONS_LIMIT: u128 = 2000000;
 
 /// The derivatives of a model, of the difference of both sides of each equation by each variable and shift that occurs
 /// in it: by equations, then in the order of places. If they have more than 2,000,000 operations together, as trees, none
@@ -37,13 +33,10 @@ pub fn derivatives<'t>(alloc: Global, model: Model<'t>) -> Result<Derivatives<'t
         parameters: _,
         equations,
     } = model.into_parts();
-    let roots = residuals(alloc, &mut graph, &equations)?;
-    let count = operations(alloc, &graph, &roots)?;
-    if count > OPERATIONS_LIMIT {
-        return Err(DeriveFault::Large { count });
-    }
-    let list = all_derivatives(alloc, &mut graph, &roots)?;
-    Ok(list)
+    let result = derivatives_in(alloc, &mut graph, &equations);
+    // By a call, since what a graph holds is dear to prove let go at a block's end.
+    drop(graph);
+    result
 }
 
 /// Tests that the derivatives of a model have at most 2,000,000 operations together, and builds none (modpath's own).
@@ -55,12 +48,27 @@ pub fn tested(alloc: Global, model: Model<'_>) -> Result<(), DeriveFault>
         parameters: _,
         equations,
     } = model.into_parts();
-    let roots = residuals(alloc, &mut graph, &equations)?;
-    let count = operations(alloc, &graph, &roots)?;
-    if count > OPERATIONS_LIMIT {
-        return Err(DeriveFault::Large { count });
-    }
+    let roots = few_enough(alloc, &mut graph, &equations);
+    // By a call, as in `derivatives`.
+    drop(graph);
+    roots?;
     Ok(())
+}
+
+// The derivatives of these equations, whose sides are nodes of the graph.
+fn derivatives_in<'t>(
+    alloc: Global,
+    graph: &mut Graph<'t>,
+    equations: &[Equation<'t>],
+) -> Result<Derivatives<'t>, DeriveFault>
+    requires within { AllByRecursion (IsWithin graph.old) (map sides_of equations.now) }
+    requires has { AllByRecursion SidesHaveDerivatives (map (equation_in graph.old.terms) (map sides_of equations.now)) }
+    ensures few { AreFew result (map (equation_in graph.old.terms) (map sides_of equations.now)) }
+    ensures all { IfOk result (λ ds. ds ≡ map (derivation graph.old.names) (derivatives_from 1 (map (equation_in graph.old.terms) (map sides_of equations.now)))) }
+{
+    let roots = few_enough(alloc, graph, equations)?;
+    let list = all_derivatives(alloc, graph, &roots)?;
+    Ok(list)
 }
 
 // The derivatives of these nodes, which are the residuals of all equations in order.

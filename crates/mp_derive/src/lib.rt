@@ -5,6 +5,7 @@
 pub mod count;
 pub mod derive;
 pub mod fault;
+pub mod few;
 pub mod residual;
 pub mod slope;
 

@@ -1,10 +1,22 @@
-use Rattle.std.proofs.Common.{◌+◌, map, drop, ap, ◌∙◌}
-use Rattle.mp_graph.proofs.Kept.{keeps-trans}
+use Rattle.std.proofs.Common.{◌+◌, List, ◌++◌, map, drop, ℕ, ap, sym, ◌∙◌, subst, append-nil}
+use Rattle.std.proofs.lemmas.List.{at_drop_all}
+use Rattle.mp_graph.proofs.Kept.{keeps-refl, keeps-trans}
+use Rattle.mp_graph.specs.Shared.{term_at}
 use Rattle.mp_model_data.specs.Shown.{sides_of, equation_in, IsWithin}
+use Rattle.mp_model_data.specs.declared.parts.Equation.{Equation}
 use Rattle.mp_derivatives.specs.Derivatives.{residual}
 use Rattle.mp_derive.proofs.Ahead.{next_is, one_has}
-use Rattle.mp_derive.proofs.Roots.{still_sides, residual_kept, within_more, terms_turn}
+use Rattle.mp_derive.proofs.Roots.{Within, still_sides, residual_kept, within_more, terms_turn}
 use Rattle.mp_derive.proofs.residual.residuals.Goals as goal
+
+pub turns-init : goal.turns-init
+turns-init c =
+    let g = c.args.graph.now in
+    record {
+      kept = keeps-refl g;
+      within = subst (Within g) (sym c.new-roots.ensures.items) tt;
+      terms = ap (λ (rs : List ℕ). map (term_at g.terms) rs ++ map residual (map (equation_in g.terms) (map sides_of c.args.equations.now))) c.new-roots.ensures.items;
+    }
 
 pub difference-requires : goal.difference-requires
 difference-requires c =
@@ -31,3 +43,15 @@ turns-preserved c =
           (record { within = c.in-Ok.ensures.says.within; term = c.in-Ok.ensures.says.term ∙ residual_kept g now (sides_of e) c.turns.invariant.kept w })
           step c.turns.invariant.terms;
     }
+
+pub returns-clause-terms : goal.returns-clause-terms
+returns-clause-terms c =
+    let g = c.args.graph.now in
+    let terms = map (term_at c.turns.graph.terms) c.turns.roots.items in
+    sym (append-nil terms) ∙ sym (at_drop_all (λ (es : List Equation). terms ++ map residual (map (equation_in g.terms) (map sides_of es))) c.args.equations.now c.turns.equation-index c.turns-test.false) ∙ c.turns.invariant.terms
+
+pub returns-in-Err-clause-kept : goal.returns-in-Err-clause-kept
+returns-in-Err-clause-kept c = keeps-trans c.args.graph.now c.turns.graph c.difference.new.graph c.turns.invariant.kept c.in-Err.ensures.kept
+
+pub returns-in_err-push-clause-kept : goal.returns-in_err-push-clause-kept
+returns-in_err-push-clause-kept c = keeps-trans c.args.graph.now c.turns.graph c.difference.new.graph c.turns.invariant.kept c.in-Ok.ensures.kept
