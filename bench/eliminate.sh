@@ -1,9 +1,9 @@
 #!/bin/sh
 # Times elimination of large bands, and one product and one quotient of points, by the built program.
-# Usage: bench/eliminate.sh        (after `rt run` in crates/mp_bench_elim, which builds the program)
+# Usage: bench/eliminate.sh        (after `rt run -- twice` in crates/mp_bench, which builds the program)
 top=$(dirname -- "$(readlink -f -- "$0")")/..
-program=$top/crates/mp_bench_elim/out/mp_bench_elim
-[ -x "$program" ] || { echo "no program at $program: run rt run in crates/mp_bench_elim first" >&2; exit 1; }
+program=$top/crates/mp_bench/out/mp_bench
+[ -x "$program" ] || { echo "no program at $program: run rt run -- twice in crates/mp_bench first" >&2; exit 1; }
 
 # the best of five runs, in seconds of the clock and of the processor, and the greatest memory in MB
 measure() {

@@ -2,10 +2,10 @@
 # Times the evaluation of 2,000 nodes in 1,000 periods, as points and as intervals, and a chain of squares. The times are
 # those of ten evaluations of each period more, so that what comes before them does not count. Best of five, by the
 # processor's clock.
-# Usage: bench/evaluate.sh        (after `rt run` in crates/mp_bench_eval, which builds the program)
+# Usage: bench/evaluate.sh        (after `rt run -- twice` in crates/mp_bench, which builds the program)
 top=$(dirname -- "$(readlink -f -- "$0")")/..
-program=$top/crates/mp_bench_eval/out/mp_bench_eval
-[ -x "$program" ] || { echo "no program at $program: run rt run in crates/mp_bench_eval first" >&2; exit 1; }
+program=$top/crates/mp_bench/out/mp_bench
+[ -x "$program" ] || { echo "no program at $program: run rt run -- twice in crates/mp_bench first" >&2; exit 1; }
 python3 - "$program" <<'END'
 import os, subprocess, sys, tempfile
 NODES, PERIODS, NAMES, BESIDE = 2000, 1001, 8, 49
@@ -46,7 +46,7 @@ def best(text):
         file.write(text)
         for turn in range(5):
             file.seek(0)
-            child = subprocess.Popen([sys.argv[1]], stdin=file, stdout=subprocess.DEVNULL)
+            child = subprocess.Popen([sys.argv[1], "evaluate"], stdin=file, stdout=subprocess.DEVNULL)
             _, status, use = os.wait4(child.pid, 0)
             if status != 0:
                 sys.exit("status %d" % status)

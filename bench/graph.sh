@@ -1,10 +1,10 @@
 #!/bin/sh
 # Times the shared graph: 800,000 calls of `intern`, and a pass over 500 and over 1,000 of 1,000 equations that stand
 # in one graph. Best of fifteen, in seconds of the processor; the pass is what the run takes beyond the building.
-# Usage: bench/graph.sh        (after `rt run -- 10 3 5` in crates/graph_bench, which builds the program)
+# Usage: bench/graph.sh        (after `rt run -- twice` in crates/mp_bench, which builds the program)
 top=$(dirname -- "$(readlink -f -- "$0")")/..
-program=$top/crates/graph_bench/out/graph_bench
-[ -x "$program" ] || { echo "no program at $program: run \`rt run -- 10 3 5\` in crates/graph_bench first" >&2; exit 1; }
+program=$top/crates/mp_bench/out/mp_bench
+[ -x "$program" ] || { echo "no program at $program: run rt run -- twice in crates/mp_bench first" >&2; exit 1; }
 work=$(mktemp -d) || exit 1
 trap 'rm -rf "$work"' EXIT
 
@@ -12,7 +12,7 @@ trap 'rm -rf "$work"' EXIT
 measure() {
   best=
   for turn in 1 2 3 4 5 6 7 8 9 10 11 12 13 14 15; do
-    /usr/bin/time -o "$work/time" -f '%U %S %M' "$program" "$@" > "$work/out" || { echo "refused" >&2; exit 1; }
+    /usr/bin/time -o "$work/time" -f '%U %S %M' "$program" graph "$@" > "$work/out" || { echo "refused" >&2; exit 1; }
     best=$(awk -v best="$best" '{ t = $1 + $2; print (best == "" || t < best) ? t : best; kilobytes = $3 } END { print kilobytes > "'"$work/memory"'" }' "$work/time")
   done
 }

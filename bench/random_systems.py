@@ -1,6 +1,6 @@
 #!/usr/bin/env python3
 """Compares elimination of 2,000 random small systems with the reference program in ../shared/oracle.
-Usage: bench/random_systems.py        (after `rt run` in crates/mp_bench_elim, which builds the program)"""
+Usage: bench/random_systems.py        (after `rt run -- twice` in crates/mp_bench, which builds the program)"""
 import os
 import random
 import subprocess
@@ -57,7 +57,7 @@ def written(case):
 
 
 def main():
-    program = os.path.join(top, "crates/mp_bench_elim/out/mp_bench_elim")
+    program = os.path.join(top, "crates/mp_bench/out/mp_bench")
     rng = random.Random(int(sys.argv[1]) if len(sys.argv) > 1 else 24)
     cases = [system(rng) for _ in range(COUNT)]
     with tempfile.NamedTemporaryFile("w", suffix=".txt") as text:

@@ -1,10 +1,11 @@
 #!/usr/bin/env python3
 """Compares the evaluation of 5,000 random graphs, as points and as intervals, with the reference program in
 ../shared/oracle: values and first faults of several roots that share parts.
-Usage: bench/random_trees.py [SEED [COUNT]]        (after `rt run` in crates/mp_bench_eval, which builds the program)
+Usage: bench/random_trees.py [SEED [COUNT]]        (after `rt run -- twice` in crates/mp_bench, which builds the program)
        bench/random_trees.py --files FOLDER SEED COUNT        (writes the graphs and the reference program's answers)"""
 import os
 import random
+import shlex
 import subprocess
 import sys
 from fractions import Fraction
@@ -210,7 +211,7 @@ def main():
     cases = [Case(rng) for _ in range(count)]
     if folder is not None:
         return write_files(folder, cases)
-    program = os.environ.get("PROGRAM", os.path.join(top, "crates/mp_bench_eval/out/mp_bench_eval"))
+    program = os.environ.get("PROGRAM", shlex.quote(os.path.join(top, "crates/mp_bench/out/mp_bench")) + " evaluate")
     out = subprocess.run(program, shell=True, input=text_of(cases), capture_output=True, text=True)
     if out.returncode != 0:
         sys.exit("status %d: %s" % (out.returncode, out.stderr))

@@ -1,7 +1,7 @@
-//! Two small passes over the shared graph, and its tests.
+//! Tests of the shared graph, and a small pass that reads.
 #![tactic(auto)]
 
-pub mod depth;
-pub mod opposite;
+#[cfg(test)]
+mod depth;
 #[cfg(test)]
 mod tests;

@@ -4,12 +4,12 @@ ghost use Rattle.std.specs.Prelude.{◌≡◌, ◌<◌, ◌≤◌, ◌≤ℤ◌,
 ghost use Rattle.mp_graph.specs.Op.{IsLawfulLeaf};
 
 use crate::depth::{Depth, TooDeep};
-use crate::opposite::Opposite;
 use mp_base::NoMemory;
 use mp_expr::{VarId, count, height};
 use mp_graph::{BinaryOp, Graph, LeafOp, NodeId, NodeOp, folded, rewritten};
 use mp_names::{NameId, Names};
 use mp_statements::NameKind;
+use mp_trial::opposite::Opposite;
 use std::alloc::Global;
 use std::test::Fail;
 
