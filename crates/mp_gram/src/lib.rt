@@ -6,6 +6,7 @@ pub mod fault;
 mod item;
 mod name;
 mod parser;
+mod past;
 mod repeated;
 mod statement;
 mod tag;

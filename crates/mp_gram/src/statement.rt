@@ -10,6 +10,7 @@ ghost use Rattle.mp_gram_expr.specs.Gives.{Gives};
 use crate::choice::choices_of;
 use crate::item::items_of;
 use crate::name::{decl_of, decls_of, name_of, names_of};
+use crate::past::past;
 use crate::repeated::{Repeated, all_of};
 use mp_file::Statement;
 use mp_gram_expr::{Rest, Wrong, expect, expr_of, wrong_at};
@@ -69,7 +70,7 @@ fn assigns_of<'a, 't>(
     let (name, rest) = name_of(tokens)?;
     let (_, rest) = expect(rest, Terminal::Equals)?;
     let (value, rest) = expr_of(alloc, rest)?;
-    let (_, rest) = expect(rest, Terminal::Semicolon)?;
+    let (value, _, rest) = past(value, rest, Terminal::Semicolon)?;
     Ok((Statement::Assigns { name, value }, rest))
 }
 
@@ -125,7 +126,7 @@ fn notes_of<'a, 't>(
     let (command, rest) = command_of(tokens)?;
     let (_, rest) = choices_of(alloc, rest)?;
     let (names, rest) = names_of(alloc, rest)?;
-    let (_, rest) = expect(rest, Terminal::Semicolon)?;
+    let (names, _, rest) = past(names, rest, Terminal::Semicolon)?;
     Ok((Statement::Notes { command, names }, rest))
 }
 
