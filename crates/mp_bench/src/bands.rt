@@ -160,13 +160,19 @@ pub(crate) fn twice<L: Ledger>(
     steps: &mut Steps<L>,
 ) -> Result<()> {
     let mut band = empty(rt.alloc(), 2_000, 20)?;
-    fill_chain(&mut band);
-    eliminate(&mut band, steps)?;
-    ends(rt, &band)?;
+    chain_and_apart(rt, &mut band, steps)
+}
+
+fn chain_and_apart<L: Ledger>(rt: &impl Print, band: &mut Band, steps: &mut Steps<L>) -> Result<()>
+    requires { IsInShape band.old }
+{
+    fill_chain(band);
+    eliminate(band, steps)?;
+    ends(rt, band)?;
     band.clear();
-    fill_apart(&mut band);
-    eliminate(&mut band, steps)?;
-    ends(rt, &band)
+    fill_apart(band);
+    eliminate(band, steps)?;
+    ends(rt, band)
 }
 
 fn fill_chain(band: &mut Band)

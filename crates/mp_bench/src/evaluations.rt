@@ -10,7 +10,7 @@ use mp_eval::{Kind, Scratch};
 use mp_fix::{Fix, Iv};
 use mp_graph::{Graph, NodeId};
 use mp_trial::added::Refused;
-use mp_trial::evaluated::{answered, evaluated};
+use mp_trial::evaluated::{Answer, answered, evaluated};
 use mp_trial::frame::Frame;
 use mp_trial::ready::Ready;
 use std::alloc::Global;
@@ -78,10 +78,19 @@ fn evaluate_in<L: Ledger>(
         frame: &frame,
         span,
     };
+    evaluate_as(rt, &case, kind, steps)
+}
+
+fn evaluate_as<L: Ledger>(
+    rt: &(impl Print + AllocGlobal),
+    case: &Case<'_>,
+    kind: u32,
+    steps: &mut Steps<L>,
+) -> Result<()> {
     if kind == 0 {
-        evaluate::<Fix, L>(rt, &case, steps)
+        evaluate::<Fix, L>(rt, case, steps)
     } else {
-        evaluate::<Iv, L>(rt, &case, steps)
+        evaluate::<Iv, L>(rt, case, steps)
     }
 }
 
@@ -110,6 +119,10 @@ fn evaluate<K: Kind + Tell, L: Ledger>(
     let Ok(answer) = answered::<K, L>(rt.alloc(), case.graph, case.roots, &ready, steps) else {
         bail!("no such evaluation");
     };
+    tell_answer(rt, &answer)
+}
+
+fn tell_answer<K: Kind + Tell>(rt: &impl Print, answer: &Answer<K>) -> Result<()> {
     for value in &answer.values {
         (*value).tell(rt)?;
     }

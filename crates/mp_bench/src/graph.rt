@@ -18,7 +18,10 @@ pub(crate) fn negate(
     passes: u32,
 ) -> anyhow::Result<()> {
     let mut graph = Graph::new(rt.alloc(), Names::new(rt.alloc()));
-    negate_in(rt, &mut graph, equations, sums, passes)
+    let result = negate_in(rt, &mut graph, equations, sums, passes);
+    // By a call, since what a graph holds is dear to prove let go at a block's end.
+    drop(graph);
+    result
 }
 
 fn negate_in(

@@ -1,5 +1,5 @@
 // The systems of a text.
-ghost use Rattle.std.specs.Prelude.{◌≡◌, length};
+ghost use Rattle.std.specs.Prelude.{◌≡◌, ◌<◌, ◌^◌, length};
 ghost use Rattle.mp_elim.specs.Shape.{IsSquare};
 ghost use Rattle.mp_band.specs.Blocks.{count_of, IsInShape};
 
@@ -10,6 +10,7 @@ use anyhow::{Result, bail};
 use mp_band::Band;
 use mp_base::Steps;
 use mp_dense::{Column, Matrix, is_square, solve};
+use mp_fix::Fix;
 use std::alloc::Global;
 use std::sync::ledger::Ledger;
 
@@ -34,19 +35,58 @@ fn eliminate_next<L: Ledger>(
     let periods = numbers.next::<u32>()?;
     let size = numbers.next::<u32>()?;
     let mut band = empty(rt.alloc(), periods, size)?;
+    eliminate_read(rt, &mut band, numbers, steps)
+}
+
+// Reads the threshold, the entries and the right sides.
+fn eliminate_read<L: Ledger>(
+    rt: &(impl Print + AllocGlobal),
+    band: &mut Band,
+    numbers: &mut Numbers<'_>,
+    steps: &mut Steps<L>,
+) -> Result<()>
+    requires shape { IsInShape band.old }
+{
     let threshold = numbers.next_fix()?;
     let a = next_matrix(rt.alloc(), band.count(), numbers)?;
     let b = next_column(rt.alloc(), band.count(), numbers)?;
-    if !is_square(&a, &b) || a.len() != band.count() as usize {
+    eliminate_square(rt, band, &a, &b, threshold, steps)
+}
+
+// Tests that the system is as large as the band.
+fn eliminate_square<L: Ledger>(
+    rt: &(impl Print + AllocGlobal),
+    band: &mut Band,
+    a: &Matrix,
+    b: &Column,
+    threshold: Fix,
+    steps: &mut Steps<L>,
+) -> Result<()>
+    requires shape { IsInShape band.old }
+{
+    if !is_square(a, b) || a.len() != band.count() as usize {
         bail!("not square");
     }
-    match solve(rt.alloc(), &a, &b, threshold, steps) {
-        Ok(x) => tell_column(rt, &x)?,
-        Err(fault) => fault.tell(rt)?,
-    }
-    fill(&mut band, &a, &b);
+    as_matrix(rt, a, b, threshold, steps)?;
+    fill(band, a, b);
     match band.eliminate(threshold, steps) {
-        Ok(()) => tell_band(rt, &band),
+        Ok(()) => tell_band(rt, band),
+        Err(fault) => fault.tell(rt),
+    }
+}
+
+fn as_matrix<L: Ledger>(
+    rt: &(impl Print + AllocGlobal),
+    a: &Matrix,
+    b: &Column,
+    threshold: Fix,
+    steps: &mut Steps<L>,
+) -> Result<()>
+    requires square { IsSquare a.now b.now }
+    requires small { length a.now < 2 ^ 32 }
+{
+    match solve(rt.alloc(), a, b, threshold, steps) {
+        Ok(x) => tell_column(rt, &x),
         Err(fault) => fault.tell(rt),
     }
 }

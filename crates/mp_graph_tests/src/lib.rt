@@ -1,7 +1,11 @@
-//! Tests of the shared graph, and a small pass that reads.
+//! Tests of the shared graph, a small pass that reads, and derivatives and evaluation over it.
 #![tactic(auto)]
 
 #[cfg(test)]
 mod depth;
 #[cfg(test)]
-mod tests;
+mod derivatives;
+#[cfg(test)]
+mod evaluations;
+#[cfg(test)]
+mod graph;

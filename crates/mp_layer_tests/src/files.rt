@@ -6,52 +6,53 @@ use mp_gram::{ParseFault, parse};
 use mp_lex::lex;
 use mp_print::print;
 use std::alloc::Global;
+use std::process::Abort;
 use std::test::Fail;
 
 // A text, and the number of its wrong token, or 0 where it is a file.
-const WRONG_TOKENS: &[(&[u8], u32)] = &[
+const WRONG_TOKENS: &[(&str, u32)] = &[
     (
-        b"parameters a, b; a = .5e1; b = -a^-2/(1 + min(a, 3));\nvar x; varexo e; model; x = a*x(-1) + e; max(x, b); end;",
+        "parameters a, b; a = .5e1; b = -a^-2/(1 + min(a, 3));\nvar x; varexo e; model; x = a*x(-1) + e; max(x, b); end;",
         0,
     ),
-    (b"", 0),
-    (b"var x", 3),
-    (b"var x, , y;", 4),
-    (b"a + 1;", 2),
-    (b"a 1;", 2),
-    (b"a = 1 2;", 4),
-    (b"a = 2^3^4;", 6),
-    (b"a = --1;", 4),
-    (b"a = min 1;", 4),
-    (b"a = x(y);", 5),
-    (b"a = (1, 2);", 5),
-    (b"model; x = log(1); end;", 5),
-    (b"model; x; var", 5),
-    (b"var x; end;", 4),
-    (b"var x; model x = 1; end;", 5),
-    (b"var x; model; x = 1; ) end;", 10),
-    (b"a = 1 * + ;", 6),
-    (b"a = x(+ 1;", 7),
-    (b"model; x;", 5),
-    (b"model; x; end", 6),
-    (b"shocks; end;", 1),
-    (b"x.5;", 2),
+    ("", 0),
+    ("var x", 3),
+    ("var x, , y;", 4),
+    ("a + 1;", 2),
+    ("a 1;", 2),
+    ("a = 1 2;", 4),
+    ("a = 2^3^4;", 6),
+    ("a = --1;", 4),
+    ("a = min 1;", 4),
+    ("a = x(y);", 5),
+    ("a = (1, 2);", 5),
+    ("model; x = log(1); end;", 5),
+    ("model; x; var", 5),
+    ("var x; end;", 4),
+    ("var x; model x = 1; end;", 5),
+    ("var x; model; x = 1; ) end;", 10),
+    ("a = 1 * + ;", 6),
+    ("a = x(+ 1;", 7),
+    ("model; x;", 5),
+    ("model; x; end", 6),
+    ("shocks; end;", 1),
+    ("x.5;", 2),
 ];
 
 // The same of locals, tags, options, declared names and noted commands.
-const WRONG_TOKENS_OF_BLOCKS: &[(&[u8], u32)] = &[
-    (b"model; # = 1; end;", 4),
-    (b"model; [] x; end;", 4),
-    (b"model; [a=b] x; end;", 6),
-    (b"model; [a='b'] # g = 1; end;", 8),
-    (b"model(); end;", 3),
-    (b"model(a=); end;", 5),
-    (b"var $x$ y;", 2),
-    (b"var x (a='b') $x$;", 8),
-    (b"check x,;", 4),
-    (b"resid() x;", 3),
-    (b"a = diff x;", 4),
-    (b"a = diff(1, 2);", 6),
+const WRONG_TOKENS_OF_BLOCKS: &[(&str, u32)] = &[
+    ("model; # = 1; end;", 4),
+    ("model; [] x; end;", 4),
+    ("model; [a=b] x; end;", 6),
+    ("model; [a='b'] # g = 1; end;", 8),
+    ("model(); end;", 3),
+    ("model(a=); end;", 5),
+    ("var $x$ y;", 2),
+    ("var x (a='b') $x$;", 8),
+    ("check x,;", 4),
+    ("resid() x;", 3),
+    ("a = diff x;", 4),
+    ("a = diff(1, 2);", 6),
 ];
 
 // The number of the text's wrong token, or 0 where it is a file.
@@ -66,12 +67,28 @@ fn wrong_token(alloc: Global, text: &[u8]) -> Result<u32, Fail>
     }
 }
 
+// Each of these texts has this wrong token.
+fn have_wrong_tokens(rt: &impl Abort, alloc: Global, rows: &[(&str, u32)]) -> Result<(), Fail> {
+    for &(text, index) in rows {
+        assert!(rt; text.len() < 1000);
+        assert_eq!(rt; wrong_token(alloc, text.as_bytes())?, index);
+    }
+    Ok(())
+}
+
 #[test]
 fn a_wrong_token_has_its_number(rt: HostRuntime) -> Result<(), Fail> {
-    for &(text, index) in WRONG_TOKENS {
-        assert_eq!(rt; wrong_token(rt.alloc(), text)?, index);
-    }
-    // 500 open parentheses are read, and of 501 the last is wrong
+    have_wrong_tokens(&rt, rt.alloc(), WRONG_TOKENS)
+}
+
+#[test]
+fn a_wrong_token_of_a_block_has_its_number(rt: HostRuntime) -> Result<(), Fail> {
+    have_wrong_tokens(&rt, rt.alloc(), WRONG_TOKENS_OF_BLOCKS)
+}
+
+// 500 open parentheses are read, and of 501 the last is wrong.
+#[test]
+fn parentheses_have_a_limit(rt: HostRuntime) -> Result<(), Fail> {
     let mut deep = [b'('; 1005];
     deep[0] = b'a';
     deep[1] = b'=';
@@ -85,20 +102,12 @@ fn a_wrong_token_has_its_number(rt: HostRuntime) -> Result<(), Fail> {
     Ok(())
 }
 
-#[test]
-fn a_wrong_token_of_a_block_has_its_number(rt: HostRuntime) -> Result<(), Fail> {
-    for &(text, index) in WRONG_TOKENS_OF_BLOCKS {
-        assert_eq!(rt; wrong_token(rt.alloc(), text)?, index);
-    }
-    Ok(())
-}
-
 // A file with each kind of statement and of atom.
-const TEXT: &[u8] =
-    b"parameters a, b; a = 0.50; b = -a*(2-.5e1); varexo e; var y x; model; -x(+01)*2.50/(a)-min(1,y)^-2 = max(y,e(-3))^(4*a); x; end;";
+const TEXT: &str =
+    "parameters a, b; a = 0.50; b = -a*(2-.5e1); varexo e; var y x; model; -x(+01)*2.50/(a)-min(1,y)^-2 = max(y,e(-3))^(4*a); x; end;";
 
-const PRINTED: &[u8] =
-    b"parameters a b;\na = 0.50;\nb = -a*(2-.5e1);\nvarexo e;\nvar y x;\nmodel;\n-x(+01)*2.50/(a)-min(1,y)^-2 = max(y,e(-3))^(4*a);\nx;\nend;\n";
+const PRINTED: &str =
+    "parameters a b;\na = 0.50;\nb = -a*(2-.5e1);\nvarexo e;\nvar y x;\nmodel;\n-x(+01)*2.50/(a)-min(1,y)^-2 = max(y,e(-3))^(4*a);\nx;\nend;\n";
 
 // The print of the file that the text is.
 fn printed(alloc: Global, text: &[u8]) -> Result<Bytes, Fail>
@@ -113,24 +122,27 @@ fn printed(alloc: Global, text: &[u8]) -> Result<Bytes, Fail>
 }
 
 // What a file keeps of a declared name is the name, and of a noted command its names.
-const NAMED: &[u8] =
-    b"var x $x_t$ (long_name='a,b', c=\"it's\"), y$$; check; rplot(a=1, b) x, y; model(linear,a=-.5,b=c,d='e'); # g=diff(-x) ; [name='a b', c=\"d\"]y=diff(diff(g)+1); end;";
+const NAMED: &str =
+    "var x $x_t$ (long_name='a,b', c=\"it's\"), y$$; check; rplot(a=1, b) x, y; model(linear,a=-.5,b=c,d='e'); # g=diff(-x) ; [name='a b', c=\"d\"]y=diff(diff(g)+1); end;";
 
-const NAMED_PRINTED: &[u8] =
-    b"var x y;\ncheck;\nrplot x y;\nmodel(linear,a=-.5,b=c,d='e');\n# g = diff(-x);\n[name='a b',c=\"d\"] y = diff(diff(g)+1);\nend;\n";
+const NAMED_PRINTED: &str =
+    "var x y;\ncheck;\nrplot x y;\nmodel(linear,a=-.5,b=c,d='e');\n# g = diff(-x);\n[name='a b',c=\"d\"] y = diff(diff(g)+1);\nend;\n";
 
 // A file whose text is written as it stands.
-const QUOTIENT: &[u8] = b"var x y z;\nmodel;\ny = x^3/(1+z);\nx = 1;\nz = 1;\nend;\n";
+const QUOTIENT: &str = "var x y z;\nmodel;\ny = x^3/(1+z);\nx = 1;\nz = 1;\nend;\n";
+
+// The text is printed so.
+fn prints(rt: &impl Abort, alloc: Global, text: &str, want: &str) -> Result<(), Fail> {
+    assert!(rt; text.len() < 1000);
+    let bytes = printed(alloc, text.as_bytes())?;
+    assert_eq!(rt; bytes.as_slice(), want.as_bytes());
+    Ok(())
+}
 
 #[test]
 fn a_file_is_printed_as_it_was_read(rt: HostRuntime) -> Result<(), Fail> {
-    let bytes = printed(rt.alloc(), TEXT)?;
-    assert_eq!(rt; bytes.as_slice(), PRINTED);
-    let named = printed(rt.alloc(), NAMED)?;
-    assert_eq!(rt; named.as_slice(), NAMED_PRINTED);
-    let again = printed(rt.alloc(), NAMED_PRINTED)?;
-    assert_eq!(rt; again.as_slice(), NAMED_PRINTED);
-    let quotient = printed(rt.alloc(), QUOTIENT)?;
-    assert_eq!(rt; quotient.as_slice(), QUOTIENT);
-    Ok(())
+    prints(&rt, rt.alloc(), TEXT, PRINTED)?;
+    prints(&rt, rt.alloc(), NAMED, NAMED_PRINTED)?;
+    prints(&rt, rt.alloc(), NAMED_PRINTED, NAMED_PRINTED)?;
+    prints(&rt, rt.alloc(), QUOTIENT, QUOTIENT)
 }

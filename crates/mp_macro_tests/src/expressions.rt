@@ -1,12 +1,13 @@
 // What no clause says: that with memory at hand each expression has the value or the kind that a reader expects.
 
-use mp_base::{Bytes, MacroKind};
+use mp_base::{Bytes, MacroKind, NoMemory};
 use mp_mexpr::{eval, truth_of};
 use mp_mvalue::{
     Array, Env, MacroFault, SharedValue, Value, Values, copy, is_among, print_value, same, shared,
     text,
 };
 use std::alloc::Global;
+use std::process::Abort;
 use std::test::Fail;
 
 // Expressions and their printed values, where x is 3, s is "ab", b is true and xs is [1, 2].
@@ -222,37 +223,70 @@ const FAULTS: &[(&str, MacroKind)] = &[
     ("xs[9223372036854775807]", MacroKind::OutOfRange),
 ];
 
-fn env(alloc: Global) -> Result<Env, MacroFault> {
-    let mut env = Env::new(alloc);
+// Names with values, and one that has lost its own.
+fn fill(alloc: Global, env: &mut Env) -> Result<(), MacroFault> {
     env.set(b"x", SharedValue::Whole(3))?;
     env.set(b"s", text(alloc, b"ab")?)?;
     env.set(b"b", SharedValue::Truth(true))?;
-    env.set(b"xs", eval(alloc, b"[1, 2]", &env)?)?;
+    let pair = eval(alloc, b"[1, 2]", env)?;
+    env.set(b"xs", pair)?;
     env.set(b"zz", SharedValue::Whole(0))?;
     env.unset(b"zz");
-    Ok(env)
+    Ok(())
 }
 
-#[test]
-fn each_expression_has_its_value(rt: HostRuntime) -> Result<(), Fail> {
-    let env = env(rt.alloc())?;
+fn env(alloc: Global) -> Result<Env, MacroFault> {
+    let mut env = Env::new(alloc);
+    match fill(alloc, &mut env) {
+        Ok(()) => Ok(env),
+        Err(fault) => {
+            drop(env);
+            Err(fault)
+        }
+    }
+}
+
+// The value is printed so.
+fn prints(
+    rt: &impl Abort,
+    alloc: Global,
+    value: &SharedValue,
+    want: &[u8],
+) -> Result<(), MacroFault> {
+    let printed = print_value(alloc, value)?;
+    assert_eq!(rt; printed.as_slice(), want);
+    Ok(())
+}
+
+// Each of these expressions has the value that is printed so.
+fn have_values(rt: &impl Abort, alloc: Global, env: &Env) -> Result<(), MacroFault> {
     for &(text, want) in VALUES {
-        let value = eval(rt.alloc(), text.as_bytes(), &env)?;
-        let printed = print_value(rt.alloc(), &value)?;
-        assert_eq!(rt; printed.as_slice(), want.as_bytes());
+        let value = eval(alloc, text.as_bytes(), env)?;
+        prints(rt, alloc, &value, want.as_bytes())?;
     }
     Ok(())
 }
 
 #[test]
-fn each_fault_has_its_kind(rt: HostRuntime) -> Result<(), Fail> {
+fn each_expression_has_its_value(rt: HostRuntime) -> Result<(), Fail> {
     let env = env(rt.alloc())?;
+    Ok(have_values(&rt, rt.alloc(), &env)?)
+}
+
+// Each of these expressions is refused for this cause.
+fn have_faults(rt: &impl Abort, alloc: Global, env: &Env) {
     for &(text, want) in FAULTS {
-        match eval(rt.alloc(), text.as_bytes(), &env) {
+        match eval(alloc, text.as_bytes(), env) {
             Err(MacroFault::Refused { kind }) => assert_eq!(rt; kind, want, "of {text}"),
             _ => assert!(rt; false, "{text} has no fault"),
         }
     }
+}
+
+#[test]
+fn each_fault_has_its_kind(rt: HostRuntime) -> Result<(), Fail> {
+    let env = env(rt.alloc())?;
+    have_faults(&rt, rt.alloc(), &env);
     Ok(())
 }
 
@@ -292,14 +326,19 @@ const BRACKETS: &[(&str, &str, u32, Option<MacroKind>)] = &[
     ("", " + (1)", 200, None),
 ];
 
+// Each of these brackets is read or refused as it should be.
+fn brackets_end(rt: &impl Abort, alloc: Global, env: &Env) -> Result<(), MacroFault> {
+    for &(open, close, many, want) in BRACKETS {
+        let text = pairs(alloc, open.as_bytes(), close.as_bytes(), many)?;
+        assert_eq!(rt; kind_of(alloc, text.as_slice(), env)?, want);
+    }
+    Ok(())
+}
+
 #[test]
 fn brackets_have_a_limit(rt: HostRuntime) -> Result<(), Fail> {
     let env = env(rt.alloc())?;
-    for &(open, close, many, want) in BRACKETS {
-        let text = pairs(rt.alloc(), open.as_bytes(), close.as_bytes(), many)?;
-        assert_eq!(rt; kind_of(rt.alloc(), text.as_slice(), &env)?, want);
-    }
-    Ok(())
+    Ok(brackets_end(&rt, rt.alloc(), &env)?)
 }
 
 // Expressions over arrays at their limits, where a has 100 arrays inside one another, and the kind of what is wrong.
@@ -314,57 +353,114 @@ const ARRAYS: &[(&str, Option<MacroKind>)] = &[
     ("(1:50000) + (1:50000) + [] == 1", None),
 ];
 
+// The name a has 100 arrays inside one another.
+fn set_deep(alloc: Global, env: &mut Env) -> Result<(), MacroFault> {
+    let text = pairs(alloc, b"[", b"]", 100)?;
+    let deep = eval(alloc, text.as_slice(), env)?;
+    Ok(env.set(b"a", deep)?)
+}
+
+// Each of these arrays is made or refused as it should be.
+fn arrays_end(rt: &impl Abort, alloc: Global, env: &mut Env) -> Result<(), MacroFault> {
+    set_deep(alloc, env)?;
+    for &(text, want) in ARRAYS {
+        assert_eq!(rt; kind_of(alloc, text.as_bytes(), env)?, want);
+    }
+    Ok(())
+}
+
 #[test]
 fn arrays_have_limits(rt: HostRuntime) -> Result<(), Fail> {
     let mut env = env(rt.alloc())?;
-    let text = pairs(rt.alloc(), b"[", b"]", 100)?;
-    let deep = eval(rt.alloc(), text.as_slice(), &env)?;
-    env.set(b"a", deep)?;
-    for &(text, want) in ARRAYS {
-        assert_eq!(rt; kind_of(rt.alloc(), text.as_bytes(), &env)?, want);
-    }
+    Ok(arrays_end(&rt, rt.alloc(), &mut env)?)
+}
+
+#[test]
+fn an_array_may_have_100000_elements(rt: HostRuntime) {
+    let env = Env::new(rt.alloc());
     assert!(rt;
         matches!(
             eval(rt.alloc(), b"100000 in (1:50000) + (50001:100000)", &env),
             Ok(SharedValue::Truth(true))
         )
     );
-    Ok(())
 }
 
-#[test]
-fn an_environment_is_a_map(rt: HostRuntime) -> Result<(), Fail> {
-    let mut env = Env::new(rt.alloc());
-    assert!(rt; env.get(b"a").is_none());
+// A name that is set has its value, and the last one when it is set again.
+fn is_set(rt: &impl Abort, env: &mut Env) -> Result<(), NoMemory> {
     env.set(b"a", SharedValue::Whole(1))?;
     env.set(b"ab", SharedValue::Truth(true))?;
     assert!(rt; matches!(env.get(b"a"), Some(SharedValue::Whole(1))));
     assert!(rt; env.get(b"A").is_none());
     env.set(b"a", SharedValue::Whole(2))?;
     assert!(rt; matches!(env.get(b"a"), Some(SharedValue::Whole(2))));
+    Ok(())
+}
+
+// A name that is unset has none, and others keep theirs.
+fn is_unset(rt: &impl Abort, env: &mut Env) {
     env.unset(b"b");
     env.unset(b"a");
     assert!(rt; env.get(b"a").is_none());
     assert!(rt; matches!(env.get(b"ab"), Some(SharedValue::Truth(true))));
+}
+
+// An empty environment becomes one that has what it was told.
+fn is_map(rt: &impl Abort, env: &mut Env) -> Result<(), NoMemory> {
+    assert!(rt; env.get(b"a").is_none());
+    is_set(rt, env)?;
+    is_unset(rt, env);
+    Ok(())
+}
+
+#[test]
+fn an_environment_is_a_map(rt: HostRuntime) -> Result<(), Fail> {
+    let mut env = Env::new(rt.alloc());
+    Ok(is_map(&rt, &mut env)?)
+}
+
+// The list of -7 and of the list of false.
+fn nested(alloc: Global) -> Result<Value, MacroFault> {
+    let mut inner = Values::new(alloc);
+    inner.push(Value::Truth(false))?;
+    let mut values = Values::new(alloc);
+    values.push(Value::Whole(-7))?;
+    values.push(Value::List(inner))?;
+    Ok(Value::List(values))
+}
+
+// A copy of the value is the same value, and is printed so.
+fn is_copied(
+    rt: &impl Abort,
+    alloc: Global,
+    whole: &SharedValue,
+    want: &[u8],
+) -> Result<(), MacroFault> {
+    let again = copy(whole)?;
+    assert!(rt; same(whole, &again));
+    prints(rt, alloc, &again, want)
+}
+
+// A copy of the first element is among the elements.
+fn has_first(rt: &impl Abort, elements: &[SharedValue]) -> Result<(), MacroFault> {
+    assert_eq!(rt; elements.len(), 1);
+    let first = copy(&elements[0])?;
+    assert!(rt; is_among(elements, &first));
+    assert!(rt; !is_among(elements, &SharedValue::Whole(-7)));
     Ok(())
 }
 
 // A value that is shared is what it was made of, and so is its copy.
 #[test]
 fn values_are_shared(rt: HostRuntime) -> Result<(), Fail> {
-    let mut inner = Values::new(rt.alloc());
-    inner.push(Value::Truth(false))?;
-    let mut values = Values::new(rt.alloc());
-    values.push(Value::Whole(-7))?;
-    values.push(Value::List(inner))?;
-    let whole = shared(rt.alloc(), &Value::List(values))?;
-    let printed = print_value(rt.alloc(), &copy(&whole)?)?;
-    assert_eq!(rt; printed.as_slice(), b"[-7, [false]]".as_slice());
-    assert!(rt; same(&whole, &copy(&whole)?));
+    let value = nested(rt.alloc())?;
+    let whole = shared(rt.alloc(), &value)?;
+    is_copied(&rt, rt.alloc(), &whole, b"[-7, [false]]")?;
     let array = Array::new(rt.alloc()).with(whole)?;
-    assert_eq!(rt; array.len(), 1);
-    assert!(rt; is_among(array.as_slice(), &copy(&array.as_slice()[0])?));
-    assert!(rt; !is_among(array.as_slice(), &SharedValue::Whole(-7)));
+    Ok(has_first(&rt, array.as_slice())?)
+}
+
+#[test]
+fn zero_is_false(rt: HostRuntime) {
     assert!(rt; matches!(truth_of(&SharedValue::Whole(0)), Ok(false)));
-    Ok(())
 }

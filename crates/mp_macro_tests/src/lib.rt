@@ -1,13 +1,7 @@
-//! Tests of macros: expressions, files, hostile texts, and runs whose calls fail.
+//! Tests of macros: expressions and files.
 #![tactic(auto)]
 
-#[cfg(test)]
-mod bombs;
 #[cfg(test)]
 mod expressions;
 #[cfg(test)]
 mod files;
-#[cfg(test)]
-mod running;
-#[cfg(test)]
-mod runs;

@@ -76,6 +76,10 @@ fn literals_have_their_numbers(rt: HostRuntime) {
             "in {literal}"
         );
     }
+}
+
+#[test]
+fn literals_past_the_limits_have_none(rt: HostRuntime) {
     for &literal in REFUSED {
         assert_eq!(rt; decimal(literal.as_bytes()), None, "in {literal}");
     }

@@ -212,39 +212,46 @@ fn points<L: Ledger>(rt: &impl Abort, steps: &mut Steps<L>) {
         let (x, y) = (point(rt, a), point(rt, b));
         assert!(rt; of_points(operation, x, y, steps) == want, "{a} and {b}");
     }
+}
+
+fn powers<L: Ledger>(rt: &impl Abort, steps: &mut Steps<L>) {
     for &(a, k, want) in POWERS {
         assert!(rt; -17 <= k && k <= 16);
         assert!(rt; units(point(rt, a).pow(k, steps)) == want, "{a} to {k}");
     }
-    for (a, b, picked) in [(1, 1, 7), (2, 1, 8)] {
-        let (x, y) = (point(rt, a), point(rt, b));
-        assert_eq!(rt;
-            Fix::pick(x, y, point(rt, 7), point(rt, 8), steps).units(),
-            picked
-        );
-    }
+}
+
+// What is picked of 7 and 8 by these two.
+fn picked<L: Ledger>(rt: &impl Abort, a: i128, b: i128, steps: &mut Steps<L>) -> i128 {
+    let (x, y) = (point(rt, a), point(rt, b));
+    Fix::pick(x, y, point(rt, 7), point(rt, 8), steps).units()
+}
+
+fn choices<L: Ledger>(rt: &impl Abort, steps: &mut Steps<L>) {
+    assert_eq!(rt; picked(rt, 1, 1, steps), 7);
+    assert_eq!(rt; picked(rt, 2, 1, steps), 8);
     assert_eq!(rt; point(rt, 3).neg(steps).units(), -3);
 }
 
 fn intervals<L: Ledger>(rt: &impl Abort, steps: &mut Steps<L>) {
     for &(operation, a, b, want) in INTERVALS {
         let (x, y) = (interval(rt, a), interval(rt, b));
-        assert!(rt;
-            of_intervals(operation, x, y, steps) == want,
-            "{a:?} and {b:?}"
-        );
+        assert!(rt; of_intervals(operation, x, y, steps) == want);
     }
+}
+
+fn interval_powers<L: Ledger>(rt: &impl Abort, steps: &mut Steps<L>) {
     for &(a, k, want) in INTERVAL_POWERS {
         assert!(rt; -17 <= k && k <= 16);
-        assert!(rt; ends(interval(rt, a).pow(k, steps)) == want, "{a:?} to {k}");
+        assert!(rt; ends(interval(rt, a).pow(k, steps)) == want);
     }
+}
+
+fn interval_choices<L: Ledger>(rt: &impl Abort, steps: &mut Steps<L>) {
     let (c, d) = (interval(rt, (1, 2)), interval(rt, (5, 6)));
     for &(a, b, picked) in PICKS {
         let (x, y) = (interval(rt, a), interval(rt, b));
-        assert!(rt;
-            ends(Ok(Iv::pick(x, y, c, d, steps))) == Ok(picked),
-            "{a:?} and {b:?}"
-        );
+        assert!(rt; ends(Ok(Iv::pick(x, y, c, d, steps))) == Ok(picked));
     }
     assert!(rt; ends(Ok(c.neg(steps))) == Ok((-2, -1)));
 }
@@ -256,7 +263,7 @@ fn fractions<L: Ledger>(rt: &impl Abort, steps: &mut Steps<L>) {
             units(Fix::of_frac(Ratio { n, d }, steps)) == down,
             "{n}/{d}"
         );
-        assert!(rt; ends(Iv::of_frac(Ratio { n, d }, steps)) == both, "{n}/{d}");
+        assert!(rt; ends(Iv::of_frac(Ratio { n, d }, steps)) == both);
     }
 }
 
@@ -267,7 +274,11 @@ fn counted<L: Ledger>(rt: &impl Abort, blank: Blank)
 {
     let mut steps = Steps::<L>::start(blank);
     points(rt, &mut steps);
+    powers(rt, &mut steps);
+    choices(rt, &mut steps);
     intervals(rt, &mut steps);
+    interval_powers(rt, &mut steps);
+    interval_choices(rt, &mut steps);
     fractions(rt, &mut steps);
 }
 
@@ -278,10 +289,14 @@ fn operations_round_as_defined(rt: HostRuntime) {
 }
 
 #[test]
-fn decimals_are_printed_and_read(rt: HostRuntime) {
+fn decimals_are_printed(rt: HostRuntime) {
     for &(units, text) in PRINTED {
         assert_eq!(rt; print_decimal(point(&rt, units)).bytes(), text.as_bytes());
     }
+}
+
+#[test]
+fn decimals_are_read(rt: HostRuntime) {
     for &(text, want) in READ {
         let got = match read_decimal(text.as_bytes()) {
             Some(f) => Some(f.units()),

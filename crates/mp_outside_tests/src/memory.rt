@@ -1,28 +1,41 @@
 // Files and sinks in memory.
-use mp_base::Bytes;
+
+use mp_base::{Bytes, NoMemory};
 use mp_outside::{Calls, Fetched, Files, Listing, MemFiles, MemSink, Put, Sink};
+use std::alloc::Global;
+use std::process::Abort;
 use std::test::Fail;
+
+// A name, how many bytes may be read, how that ends, and what was read.
+const FETCHES: &[(&str, u64, Fetched, &str)] = &[
+    ("m", 6, Fetched::Got, "var x;"),
+    ("m", 6, Fetched::ReadFault, ""),
+    ("m", 5, Fetched::TooLong, ""),
+    ("n", 6, Fetched::Absent, ""),
+];
+
+// Two files of one name, of which the first is there; the second call fails.
+fn files_of(alloc: Global) -> Result<MemFiles, NoMemory> {
+    let mut listing = Listing::new(alloc);
+    listing.add(b"m", b"var x;")?;
+    listing.add(b"m", b"var y;")?;
+    let mut failing = Calls::new(alloc);
+    failing.add(2)?;
+    Ok(MemFiles::new(listing, failing))
+}
+
+fn fetches_end(rt: &impl Abort, files: &mut MemFiles, into: &mut Bytes) {
+    for &(name, limit, answer, bytes) in FETCHES {
+        assert_eq!(rt; files.fetch(name.as_bytes(), limit, into), answer);
+        assert_eq!(rt; into.as_slice(), bytes.as_bytes());
+    }
+    assert_eq!(rt; files.faults(), 1);
+}
 
 #[test]
 fn listed_calls_fail(rt: HostRuntime) -> Result<(), Fail> {
-    let mut listing = Listing::new(rt.alloc());
-    listing.add(b"m", b"var x;")?;
-    listing.add(b"m", b"var y;")?;
-    let mut failing = Calls::new(rt.alloc());
-    failing.add(2)?;
-    let mut files = MemFiles::new(listing, failing);
-    let mut into = Bytes::new(rt.alloc());
-    let rows: [(&'static [u8], u64, Fetched, &'static [u8]); 4] = [
-        (b"m", 6, Fetched::Got, b"var x;"),
-        (b"m", 6, Fetched::ReadFault, b""),
-        (b"m", 5, Fetched::TooLong, b""),
-        (b"n", 6, Fetched::Absent, b""),
-    ];
-    for (name, limit, answer, bytes) in rows {
-        assert_eq!(rt; files.fetch(name, limit, &mut into), answer);
-        assert_eq!(rt; into.as_slice(), bytes);
-    }
-    assert_eq!(rt; files.faults(), 1);
+    let mut files = files_of(rt.alloc())?;
+    fetches_end(&rt, &mut files, &mut Bytes::new(rt.alloc()));
     Ok(())
 }
 

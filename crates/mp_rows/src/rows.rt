@@ -1,71 +1,39 @@
 // Whole runs over files and sinks in memory: what each writes and tells was worked out by hand from the formats.
-ghost use Rattle.std.specs.Prelude.{◌≡◌, ◌<◌};
 
-use mp_base::{NoMemory, Outcome, Steps, WordList};
-use mp_outside::{Calls, Listing, MemFiles, MemSink};
-use mp_run::run;
+use crate::running::{DERIVE, EXPAND, Row, TRANSFORM, answers};
+use mp_base::NoMemory;
 use mp_vectors::{DERIVED, EXPANDED, REFUSED, TRANSFORMED};
 use std::alloc::Global;
-use std::marker::Brand;
 use std::process::Abort;
-use std::sync::ledger::{Blank, Ledger};
 use std::test::Fail;
 
-// What a run is tried on, and the status, the output and the fault line that it gives. The file is named m, and both a
-// and b hold the part; call number 0 never comes.
-#[derive(Clone, Copy)]
-struct Row<'a> {
-    words: &'a [&'a str],
-    text: &'a [u8],
-    part: &'a [u8],
-    failing_fetch: u64,
-    out_room: usize,
-    err_room: usize,
-    status: u8,
-    out: &'a [u8],
-    err: &'a [u8],
-}
-
-// An empty text is expanded, with ample room.
-const EMPTY: Row<'static> = Row {
-    words: &["expand", "m"],
-    text: b"",
-    part: b"",
-    failing_fetch: 0,
-    out_room: 4096,
-    err_room: 512,
-    status: 0,
-    out: b"",
-    err: b"",
-};
-
 // The program is shown these words, and refuses them so.
-const WORDS: &[(&[&str], u8, &[u8])] = &[
-    (&[], 2, b"modpath: 2 Words word=1\n"),
-    (&["m", "m"], 2, b"modpath: 2 Words word=1\n"),
-    (&["transform"], 2, b"modpath: 2 Words word=2\n"),
-    (&["transform", "m", "m"], 2, b"modpath: 2 Words word=3\n"),
-    (&[""], 2, b"modpath: 2 Words word=1\n"),
-    (&["expand", "m", "N"], 2, b"modpath: 2 Words word=3\n"),
+const WORDS: &[(&[&str], u8, &str)] = &[
+    (&[], 2, "modpath: 2 Words word=1\n"),
+    (&["m", "m"], 2, "modpath: 2 Words word=1\n"),
+    (&["transform"], 2, "modpath: 2 Words word=2\n"),
+    (&["transform", "m", "m"], 2, "modpath: 2 Words word=3\n"),
+    (&[""], 2, "modpath: 2 Words word=1\n"),
+    (&["expand", "m", "N"], 2, "modpath: 2 Words word=3\n"),
     (
         &["expand", "m", "N=1", "var=1"],
         2,
-        b"modpath: 2 Words word=4\n",
+        "modpath: 2 Words word=4\n",
     ),
-    (&["expand", "m", "true=1"], 2, b"modpath: 2 Words word=3\n"),
-    (&["expand", "m", "N=\""], 2, b"modpath: 2 Words word=3\n"),
-    (&["transform", "m", "1=2"], 2, b"modpath: 2 Words word=3\n"),
-    (&["expand", "m", "var=1"], 2, b"modpath: 2 Words word=3\n"),
-    (&["solve", "m"], 2, b"modpath: 2 Words word=1\n"),
-    (&["derive"], 2, b"modpath: 2 Words word=2\n"),
-    (&["derive", "m", "--help"], 2, b"modpath: 2 Words word=3\n"),
-    (&["transform", "-m"], 2, b"modpath: 2 Words word=2\n"),
+    (&["expand", "m", "true=1"], 2, "modpath: 2 Words word=3\n"),
+    (&["expand", "m", "N=\""], 2, "modpath: 2 Words word=3\n"),
+    (&["transform", "m", "1=2"], 2, "modpath: 2 Words word=3\n"),
+    (&["expand", "m", "var=1"], 2, "modpath: 2 Words word=3\n"),
+    (&["solve", "m"], 2, "modpath: 2 Words word=1\n"),
+    (&["derive"], 2, "modpath: 2 Words word=2\n"),
+    (&["derive", "m", "--help"], 2, "modpath: 2 Words word=3\n"),
+    (&["transform", "-m"], 2, "modpath: 2 Words word=2\n"),
     (
         &["transform", "nofile"],
         3,
-        b"modpath: 3 Absent name=nofile\n",
+        "modpath: 3 Absent name=nofile\n",
     ),
-    (&["expand", "nofile"], 3, b"modpath: 3 Absent name=nofile\n"),
+    (&["expand", "nofile"], 3, "modpath: 3 Absent name=nofile\n"),
 ];
 
 const DOUBLED: &[u8] = b"var x; model; x = 2*x(-1); end;";
@@ -79,13 +47,13 @@ const ROWS: &[Row<'static>] = &[
         words: &["expand", "m", "N=2"],
         text: b"x@{N+1} // @{N}",
         out: b"x3 // @{N}\n",
-        ..EMPTY
+        ..EXPAND
     },
     Row {
         text: BOTH,
         part: b"p",
         out: b"p\np\n",
-        ..EMPTY
+        ..EXPAND
     },
     Row {
         text: BOTH,
@@ -93,13 +61,13 @@ const ROWS: &[Row<'static>] = &[
         failing_fetch: 3,
         status: 11,
         err: b"modpath: 11 ReadFault count=1\n",
-        ..EMPTY
+        ..EXPAND
     },
     Row {
         words: &["transform", "m"],
         text: b"@#define N = 2\nvar x; model; x = @{N}*x(-1); end;",
         out: b"var x;\nmodel;\nx = 2*x(-1);\nend;\n",
-        ..EMPTY
+        ..EXPAND
     },
     Row {
         words: &["transform", "m"],
@@ -108,7 +76,7 @@ const ROWS: &[Row<'static>] = &[
         status: 12,
         out: b"var x;\nmod",
         err: b"modpath: 12 WriteFault count=1\n",
-        ..EMPTY
+        ..EXPAND
     },
     Row {
         words: &["transform", "m"],
@@ -116,7 +84,7 @@ const ROWS: &[Row<'static>] = &[
         failing_fetch: 1,
         status: 11,
         err: b"modpath: 11 ReadFault count=1\n",
-        ..EMPTY
+        ..EXPAND
     },
     Row {
         words: &["transform", "m"],
@@ -124,64 +92,9 @@ const ROWS: &[Row<'static>] = &[
         err_room: 7,
         status: 5,
         err: b"modpath",
-        ..EMPTY
+        ..EXPAND
     },
 ];
-
-// What came of a run.
-#[derive(Drop)]
-struct Came {
-    outcome: Outcome,
-    out: MemSink,
-    err: MemSink,
-}
-
-// The run of a row with ample memory, over a ledger for the count of steps.
-fn came_of<L: Ledger>(alloc: Global, row: &Row, blank: Blank) -> Result<Came, NoMemory>
-    requires name { blank.name ≡ L.name }
-    requires parts { blank.parts ≡ L.parts }
-    requires some { 0 < blank.parts }
-{
-    let mut words = WordList::new(alloc);
-    for word in row.words {
-        if words.count() < 9 {
-            words.add(*word)?;
-        }
-    }
-    let mut listing = Listing::new(alloc);
-    listing.add(b"m", row.text)?;
-    listing.add(b"a", row.part)?;
-    listing.add(b"b", row.part)?;
-    let mut failing = Calls::new(alloc);
-    failing.add(row.failing_fetch)?;
-    let mut files = MemFiles::new(listing, failing);
-    let mut out = MemSink::with_room(alloc, row.out_room, Calls::new(alloc))?;
-    let mut err = MemSink::with_room(alloc, row.err_room, Calls::new(alloc))?;
-    let mut steps = Steps::<L>::start(blank);
-    let outcome = run(alloc, &words, &mut files, &mut out, &mut err, &mut steps);
-    Ok(Came { outcome, out, err })
-}
-
-// The run of the row answers, writes and tells what it wants.
-fn answers(rt: &impl Abort, alloc: Global, row: &Row) -> Result<(), NoMemory> {
-    let came = came_of::<Brand>(alloc, row, Blank::new(1))?;
-    assert_eq!(rt; came.outcome.code(), row.status);
-    assert_eq!(rt; came.out.taken(), row.out);
-    assert_eq!(rt; came.err.taken(), row.err);
-    Ok(())
-}
-
-// An empty text is transformed, with ample room.
-const TRANSFORM: Row<'static> = Row {
-    words: &["transform", "m"],
-    ..EMPTY
-};
-
-// The derivatives of an empty text are written, with ample room.
-const DERIVE: Row<'static> = Row {
-    words: &["derive", "m"],
-    ..EMPTY
-};
 
 // The worked runs of a job on the file m.
 fn worked(
@@ -192,10 +105,10 @@ fn worked(
 ) -> Result<(), NoMemory> {
     for row in rows {
         let row = Row {
-            text: row.text,
+            text: row.text.as_bytes(),
             status: row.status,
-            out: row.out,
-            err: row.err,
+            out: row.out.as_bytes(),
+            err: row.err.as_bytes(),
             ..job
         };
         answers(rt, alloc, &row)?;
@@ -204,30 +117,41 @@ fn worked(
 }
 
 #[test]
-fn texts_are_expanded_transformed_or_refused(rt: HostRuntime) -> Result<(), Fail> {
-    worked(&rt, rt.alloc(), TRANSFORM, TRANSFORMED)?;
-    worked(&rt, rt.alloc(), TRANSFORM, REFUSED)?;
-    worked(&rt, rt.alloc(), EMPTY, EXPANDED)?;
-    Ok(())
+fn texts_are_transformed(rt: HostRuntime) -> Result<(), Fail> {
+    Ok(worked(&rt, rt.alloc(), TRANSFORM, TRANSFORMED)?)
+}
+
+#[test]
+fn texts_are_refused(rt: HostRuntime) -> Result<(), Fail> {
+    Ok(worked(&rt, rt.alloc(), TRANSFORM, REFUSED)?)
+}
+
+#[test]
+fn texts_are_expanded(rt: HostRuntime) -> Result<(), Fail> {
+    Ok(worked(&rt, rt.alloc(), EXPAND, EXPANDED)?)
 }
 
 #[test]
 fn derivatives_are_written_or_refused(rt: HostRuntime) -> Result<(), Fail> {
-    worked(&rt, rt.alloc(), DERIVE, DERIVED)?;
-    Ok(())
+    Ok(worked(&rt, rt.alloc(), DERIVE, DERIVED)?)
 }
 
 #[test]
-fn words_files_and_faults_have_their_answers(rt: HostRuntime) -> Result<(), Fail> {
+fn words_have_their_answers(rt: HostRuntime) -> Result<(), Fail> {
     for &(words, status, err) in WORDS {
         let row = Row {
             words,
             status,
-            err,
-            ..EMPTY
+            err: err.as_bytes(),
+            ..EXPAND
         };
         answers(&rt, rt.alloc(), &row)?;
     }
+    Ok(())
+}
+
+#[test]
+fn files_and_faults_have_their_answers(rt: HostRuntime) -> Result<(), Fail> {
     for row in ROWS {
         answers(&rt, rt.alloc(), row)?;
     }
@@ -256,7 +180,7 @@ fn a_side_is_500_nodes_high_at_most(rt: HostRuntime) -> Result<(), Fail> {
         text: low.as_slice(),
         out: printed.as_slice(),
         out_room: 2048,
-        ..EMPTY
+        ..EXPAND
     };
     answers(&rt, alloc, &row)?;
     let high = sum_of(alloc, b"var x; model; x = x", 501, b"; end;")?;
@@ -272,21 +196,21 @@ fn a_side_is_500_nodes_high_at_most(rt: HostRuntime) -> Result<(), Fail> {
 }
 
 // Files of so many blanks on one line: the line's newline is a byte of the expanded text.
-const BLANKS: &[(usize, u8, &[u8])] = &[
+const BLANKS: &[(usize, u8, &str)] = &[
     (
         8_388_607,
         6,
-        b"modpath: 6 Declared kind=NoModel name= at=8388608\n",
+        "modpath: 6 Declared kind=NoModel name= at=8388608\n",
     ),
     (
         8_388_608,
         4,
-        b"modpath: 4 Macro kind=TextLimit file=m line=1\n",
+        "modpath: 4 Macro kind=TextLimit file=m line=1\n",
     ),
     (
         8_388_609,
         4,
-        b"modpath: 4 Macro kind=FileLong file=m line=0\n",
+        "modpath: 4 Macro kind=FileLong file=m line=0\n",
     ),
 ];
 
@@ -298,8 +222,8 @@ fn a_file_and_its_text_may_have_8388608_bytes(rt: HostRuntime) -> Result<(), Fai
             words: &["transform", "m"],
             text: text.as_slice(),
             status,
-            err,
-            ..EMPTY
+            err: err.as_bytes(),
+            ..EXPAND
         };
         answers(&rt, rt.alloc(), &row)?;
     }

@@ -1,5 +1,0 @@
-//! Tests of derivatives over a graph.
-#![tactic(auto)]
-
-#[cfg(test)]
-mod tests;

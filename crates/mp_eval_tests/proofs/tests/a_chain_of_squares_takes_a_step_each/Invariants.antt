@@ -1,4 +1,0 @@
-use Rattle.mp_eval_tests.proofs.tests.a_chain_of_squares_takes_a_step_each.Given as goal
-
-abbrev pub ghosts-chains : goal.ghosts-chains
-ghosts-chains g a = record { name = a.blank.name; parts = a.blank.parts }

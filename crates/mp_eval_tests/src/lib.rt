@@ -1,5 +1,0 @@
-//! Tests of evaluation.
-#![tactic(auto)]
-
-#[cfg(test)]
-mod tests;

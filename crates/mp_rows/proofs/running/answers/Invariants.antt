@@ -1,0 +1,4 @@
+use Rattle.mp_rows.proofs.running.answers.Given as goal
+
+abbrev pub ghosts-ran : goal.ghosts-ran
+ghosts-ran g a = record { name = a.blank.name; parts = a.blank.parts }
