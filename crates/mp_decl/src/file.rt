@@ -4,6 +4,7 @@ ghost use Rattle.mp_statements.specs.Parts.{equations_of};
 ghost use Rattle.mp_file.specs.Shown.{statement_of, file_of};
 ghost use Rattle.mp_values.specs.Names.{names_of};
 ghost use Rattle.mp_declared.specs.Declared.{equation_names, first_shared, gap_fault, value_fault, declared_fault};
+ghost use Rattle.mp_decl.specs.Walk.{nothing_known};
 ghost use Rattle.mp_decl.specs.Whole.{whole_fault_by, unvalued_in};
 ghost use Rattle.mp_decl.specs.Walks.{Finds};
 
@@ -27,11 +28,30 @@ pub fn declared_names<'t>(alloc: Global, file: &File<'t>, end: u32) -> Result<Na
     ensures fault { Finds result (declared_fault end (file_of file.now)) }
     ensures names { IfOk result (λ names. names ≡ names_of (file_of file.now)) }
 {
-    let statements = file.statements.as_slice();
     let mut known = Known::new(alloc);
-    walk(&mut known, statements)?;
-    test_whole(alloc, &known, statements, end)?;
-    Ok(known.names)
+    match test_file(alloc, &mut known, file.statements.as_slice(), end) {
+        Ok(()) => Ok(known.into_names()),
+        Err(fault) => {
+            drop(known);
+            Err(fault)
+        }
+    }
+}
+
+// The walk over a file, of which nothing is known yet, and the tests of the whole.
+fn test_file<'t>(
+    alloc: Global,
+    known: &mut Known<'t>,
+    statements: &[Statement<'t>],
+    end: u32,
+) -> Result<(), DeclFault>
+    requires { known.old ≡ nothing_known }
+    ensures fault { Finds result (declared_fault end (map statement_of statements.now)) }
+    ensures names { IfOk result (λ _. known.new.names ≡ names_of (map statement_of statements.now)) }
+{
+    walk(known, statements)?;
+    test_whole(alloc, known, statements, end)?;
+    Ok(())
 }
 
 // The tests of the whole file, after the walk.

@@ -46,6 +46,13 @@ impl<'t> Known<'t> {
         }
     }
 
+    // The names that are declared.
+    pub(crate) fn into_names(self) -> Names<'t>
+        ensures { result ≡ self.entry.names }
+    {
+        self.names
+    }
+
     // What the name stands for, if it is there. Declared names and locals are in one space.
     fn standing(&self, name: &[u8]) -> Option<Standing>
         ensures { option_map standing_of result ≡ standing_in self.now name.now }

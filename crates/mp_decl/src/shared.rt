@@ -1,5 +1,5 @@
 // Names that several equations bear.
-ghost use Rattle.std.specs.Prelude.{◌≡◌, ◌++◌, map, option_map, IfOk, OnOk};
+ghost use Rattle.std.specs.Prelude.{◌≡◌, [], ◌++◌, map, option_map, IfOk, OnOk};
 ghost use Rattle.std.specs.List.{flat_map};
 ghost use Rattle.mp_statements.specs.Parts.{equations_in, equations_of};
 ghost use Rattle.mp_file.specs.Shown.{item_of, statement_of};
@@ -20,10 +20,23 @@ pub(crate) fn first_shared<'t>(
     ensures { IfOk result (λ r. option_map (λ n. n.now) r ≡ first_shared (equation_names (equations_of (map statement_of statements.now)))) }
 {
     let mut names = Vec::new(alloc);
-    'turns: for statement in statements {
-        add_names(items_of(statement), &mut names)?;
+    match add_all_names(statements, &mut names) {
+        Ok(()) => first_of_shared(alloc, &names),
+        Err(error) => Err(error),
     }
-    first_of_shared(alloc, &names)
+}
+
+// Adds the names of all equations.
+fn add_all_names<'t>(
+    statements: &[Statement<'t>],
+    names: &mut Vec<&'t [u8]>,
+) -> Result<(), NoMemory>
+    ensures { OnOk result (map (λ n. n.now) names.new.items ≡ map (λ n. n.now) names.old.items ++ equation_names (equations_of (map statement_of statements.now))) }
+{
+    'turns: for statement in statements {
+        add_names(items_of(statement), names)?;
+    }
+    Ok(())
 }
 
 // Adds the names of these equations.
@@ -58,6 +71,19 @@ fn first_of_shared<'t>(alloc: Global, names: &[&'t [u8]]) -> Result<Option<&'t [
     ensures { IfOk result (λ r. option_map (λ n. n.now) r ≡ first_shared (map (λ n. n.now) names.now)) }
 {
     let mut further = NameList::new(alloc);
+    let found = first_of_these(&mut further, names);
+    drop(further);
+    found
+}
+
+// That name, by a list of those that stand further on, which is empty at first.
+fn first_of_these<'t>(
+    further: &mut NameList<'t>,
+    names: &[&'t [u8]],
+) -> Result<Option<&'t [u8]>, NoMemory>
+    requires { further.old ≡ [] }
+    ensures { IfOk result (λ r. option_map (λ n. n.now) r ≡ first_shared (map (λ n. n.now) names.now)) }
+{
     let mut found = None;
     'turns: for i in (0..names.len()).rev() {
         if !further.add(names[i])? {

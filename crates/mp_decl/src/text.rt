@@ -6,6 +6,7 @@ ghost use Rattle.mp_lex.specs.Shown.{tok_of};
 ghost use Rattle.mp_file.specs.Shown.{statement_of, file_of};
 ghost use Rattle.mp_values.specs.Names.{names_of};
 ghost use Rattle.mp_values.specs.Exponents.{all_exponents};
+ghost use Rattle.mp_values.specs.Table.{unset};
 ghost use Rattle.mp_declared.specs.Declared.{declared_fault};
 ghost use Rattle.mp_fold.specs.Shown.{stuck_of};
 ghost use Rattle.mp_decl.specs.Given.{whole_told, values_told, declared_given, refusal, Tells};
@@ -54,10 +55,13 @@ pub fn declare<'t>(
         Ok(names) => names,
         Err(fault) => return Err(fault),
     };
-    if let Some(at) = far_literal(tokens) {
-        return Err(literal_fault(at));
+    match far_literal(tokens) {
+        None => valued(alloc, names, file.statements.as_slice(), end),
+        Some(at) => {
+            drop(names);
+            Err(literal_fault(at))
+        }
     }
-    valued(alloc, names, file.statements.as_slice(), end)
 }
 
 // The place of the first number that is out of range.
@@ -110,18 +114,60 @@ fn valued<'t>(
     ensures exponents { IfOk result (λ d. all_exponents d.values (items_of (map statement_of statements.now)) ≡ Ok d.exponents.items) }
     ensures refused { IfErr result (λ e. Tells e (values_told end (map statement_of statements.now))) }
 {
-    let Ok(mut values) = Table::of_parameters(alloc, &names) else {
-        return Err(DeclFault::NoMemory);
-    };
-    if let Err(fault) = assign_values(&mut values, statements) {
-        return Err(told(fault, end));
-    }
-    match exponents(alloc, &values, statements) {
-        Ok(exponents) => Ok(Declared {
+    match values_of(alloc, &names, statements, end) {
+        Ok((values, exponents)) => Ok(Declared {
             names,
             values,
             exponents,
         }),
+        Err(fault) => {
+            drop(names);
+            Err(fault)
+        }
+    }
+}
+
+// The parameters of these names with their values, and the exponents of the model.
+fn values_of<'t>(
+    alloc: Global,
+    names: &Names<'t>,
+    statements: &[Statement<'t>],
+    end: u32,
+) -> Result<(Table<'t>, Vec<Exponent>), DeclFault>
+    requires { names.now.parameters ≡ (names_of (map statement_of statements.now)).parameters }
+    ensures given { IfOk result (λ x. values_told end (map statement_of statements.now) ≡ Ok x.0) }
+    ensures exponents { IfOk result (λ x. all_exponents x.0 (items_of (map statement_of statements.now)) ≡ Ok x.1.items) }
+    ensures refused { IfErr result (λ e. Tells e (values_told end (map statement_of statements.now))) }
+{
+    let Ok(mut values) = Table::of_parameters(alloc, names) else {
+        return Err(DeclFault::NoMemory);
+    };
+    match assign(alloc, &mut values, statements, end) {
+        Ok(exponents) => Ok((values, exponents)),
+        Err(fault) => {
+            drop(values);
+            Err(fault)
+        }
+    }
+}
+
+// Gives the parameters, none of which has a value yet, their values, and tells the exponents of the model.
+fn assign<'t>(
+    alloc: Global,
+    values: &mut Table<'t>,
+    statements: &[Statement<'t>],
+    end: u32,
+) -> Result<Vec<Exponent>, DeclFault>
+    requires { values.old ≡ unset (names_of (map statement_of statements.now)).parameters }
+    ensures given { IfOk result (λ _. values_told end (map statement_of statements.now) ≡ Ok values.new) }
+    ensures exponents { IfOk result (λ found. all_exponents values.new (items_of (map statement_of statements.now)) ≡ Ok found.items) }
+    ensures refused { IfErr result (λ e. Tells e (values_told end (map statement_of statements.now))) }
+{
+    if let Err(fault) = assign_values(values, statements) {
+        return Err(told(fault, end));
+    }
+    match exponents(alloc, values, statements) {
+        Ok(exponents) => Ok(exponents),
         Err(ExponentFault::Refused(fault)) => Err(told(fault, end)),
         Err(ExponentFault::NoMemory) => Err(DeclFault::NoMemory),
     }

@@ -23,13 +23,27 @@ pub(crate) fn unvalued<'t>(
     ensures { IfOk result (λ r. option_map (λ n. n.now) r ≡ option_or (read_early [] (map statement_of statements.now)) (find (is_missing (flat_map assigned_in (map statement_of statements.now))) parameters.now)) }
 {
     let mut given = NameList::new(alloc);
+    let found = unvalued_after(&mut given, statements, parameters);
+    drop(given);
+    found
+}
+
+// That parameter, by a list of those that have a value, which is empty at first.
+fn unvalued_after<'t>(
+    given: &mut NameList<'t>,
+    statements: &[Statement<'t>],
+    parameters: &NameList<'t>,
+) -> Result<Option<&'t [u8]>, NoMemory>
+    requires { given.old ≡ [] }
+    ensures { IfOk result (λ r. option_map (λ n. n.now) r ≡ option_or (read_early [] (map statement_of statements.now)) (find (is_missing (flat_map assigned_in (map statement_of statements.now))) parameters.now)) }
+{
     'turns: for statement in statements {
-        if let Some(name) = read_early(&given, statement) {
+        if let Some(name) = read_early(given, statement) {
             return Ok(Some(name));
         }
-        give(&mut given, statement)?;
+        give(given, statement)?;
     }
-    Ok(first_missing(&given, parameters))
+    Ok(first_missing(given, parameters))
 }
 
 // The first parameter that the statement reads, where these have a value and it has none.

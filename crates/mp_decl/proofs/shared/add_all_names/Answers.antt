@@ -3,7 +3,7 @@ use Rattle.mp_statements.specs.Parts.{items_in, equations_of}
 use Rattle.mp_file.specs.Shown.{statement_of}
 use Rattle.mp_declared.specs.Declared.{equation_names}
 use Rattle.mp_decl.proofs.SharedLaws.{item_names, file_names-more, names_turn, lent}
-use Rattle.mp_decl.proofs.shared.first_shared.Goals as goal
+use Rattle.mp_decl.proofs.shared.add_all_names.Goals as goal
 
 pub turns-preserved : goal.turns-preserved
 turns-preserved c =

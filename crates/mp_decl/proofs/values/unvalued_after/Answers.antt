@@ -6,12 +6,12 @@ use Rattle.std.specs.Str.{bytes_eq}
 use Rattle.mp_file.specs.Shown.{statement_of}
 use Rattle.mp_declared.specs.Declared.{is_missing, read_early, assigned_in}
 use Rattle.mp_decl.proofs.GivenLaws.{early_turn, early_found, given_turn, given_end, early_end, find-same}
-use Rattle.mp_decl.proofs.values.unvalued.Goals as goal
+use Rattle.mp_decl.proofs.values.unvalued_after.Goals as goal
 
 pub turns-init : goal.turns-init
 turns-init c = record {
-  early = ap (λ (given : List (List ℕ)). read_early given (map statement_of c.args.statements.now)) c.new-given.ensures;
-  all = λ name. ap (λ (given : List (List ℕ)). list_any (bytes_eq name) (given ++ flat_map assigned_in (map statement_of c.args.statements.now))) c.new-given.ensures;
+  early = ap (λ (given : List (List ℕ)). read_early given (map statement_of c.args.statements.now)) c.requires;
+  all = λ name. ap (λ (given : List (List ℕ)). list_any (bytes_eq name) (given ++ flat_map assigned_in (map statement_of c.args.statements.now))) c.requires;
 }
 
 pub turns-preserved : goal.turns-preserved

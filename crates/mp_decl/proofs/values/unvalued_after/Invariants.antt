@@ -3,7 +3,7 @@ use Rattle.std.specs.List.{flat_map}
 use Rattle.mp_file.specs.Shown.{statement_of}
 use Rattle.mp_declared.specs.Declared.{read_early, assigned_in}
 use Rattle.mp_decl.proofs.GivenLaws.{Same}
-use Rattle.mp_decl.proofs.values.unvalued.Given as goal
+use Rattle.mp_decl.proofs.values.unvalued_after.Given as goal
 
 abbrev pub invariant-turns : goal.invariant-turns
 invariant-turns l = record {

@@ -1,5 +1,5 @@
 use Rattle.mp_decl.proofs.SharedLaws.{again_turn}
-use Rattle.mp_decl.proofs.shared.first_of_shared.Goals as goal
+use Rattle.mp_decl.proofs.shared.first_of_these.Goals as goal
 
 pub turns-preserved-then-not-branch : goal.turns-preserved-then-not-branch
 turns-preserved-then-not-branch c =

@@ -1,7 +1,7 @@
 use Rattle.std.proofs.Common.{◌≡◌, ℕ, List, Bor, map, drop, option_map}
 use Rattle.mp_declared.specs.Declared.{first_shared}
 use Rattle.mp_decl.proofs.GivenLaws.{Same}
-use Rattle.mp_decl.proofs.shared.first_of_shared.Given as goal
+use Rattle.mp_decl.proofs.shared.first_of_these.Given as goal
 
 abbrev pub invariant-turns : goal.invariant-turns
 invariant-turns l = record {
