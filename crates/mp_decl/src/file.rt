@@ -38,7 +38,7 @@ pub fn declared_names<'t>(alloc: Global, file: &File<'t>, end: u32) -> Result<Na
     }
 }
 
-// The walk over a file, of which nothing is known yet, and the tests of the whole.
+// Walks over a file of which nothing is known yet, and tests the whole.
 fn test_file<'t>(
     alloc: Global,
     known: &mut Known<'t>,

@@ -50,7 +50,15 @@ impl<'t> Known<'t> {
     pub(crate) fn into_names(self) -> Names<'t>
         ensures { result ≡ self.entry.names }
     {
-        self.names
+        let Known {
+            names,
+            locals,
+            begun: _,
+            chosen,
+        } = self;
+        drop(locals);
+        drop(chosen);
+        names
     }
 
     // What the name stands for, if it is there. Declared names and locals are in one space.

@@ -76,7 +76,7 @@ fn first_of_shared<'t>(alloc: Global, names: &[&'t [u8]]) -> Result<Option<&'t [
     found
 }
 
-// That name, by a list of those that stand further on, which is empty at first.
+// That name, with the list of those that stand further on, which is empty at first.
 fn first_of_these<'t>(
     further: &mut NameList<'t>,
     names: &[&'t [u8]],

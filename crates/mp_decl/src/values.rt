@@ -28,7 +28,7 @@ pub(crate) fn unvalued<'t>(
     found
 }
 
-// That parameter, by a list of those that have a value, which is empty at first.
+// That parameter, with the list of those that have a value so far, which is empty at first.
 fn unvalued_after<'t>(
     given: &mut NameList<'t>,
     statements: &[Statement<'t>],
