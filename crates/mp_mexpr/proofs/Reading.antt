@@ -85,6 +85,10 @@ seen_expr x = (expr_of x.0, toks x.1.now)
 abbrev pub seen_exprs : List Code × Bor (List Token) → Exprs × List Tok
 seen_exprs x = (after Empty x.0, toks x.1.now)
 
+-- this is what was read
+abbrev pub seen_rest : Expr → Bor (List Token) → Expr × List Tok
+seen_rest read rest = (read, toks rest.now)
+
 -- where a part is not read, neither is the whole
 pub Reads-fails : {X Y X' Y' : Type 0} (view : Y → X × List Tok) (view' : Y' → X' × List Tok) (e : Unread) (part : Option (X × List Tok)) (all : Option (X' × List Tok)) → (part ≡ None → all ≡ None) → Reads view (Err e) part → Reads view' (Err e) all
 Reads-fails view view' u.Wrong part all h none = h none

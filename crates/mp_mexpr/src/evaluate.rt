@@ -3,8 +3,8 @@ ghost use Rattle.std.specs.Prelude.{Ok};
 ghost use Rattle.mp_mvalue.specs.Environments.{value_in};
 ghost use Rattle.mp_mvalue.specs.Gives.{GivesValue};
 ghost use Rattle.mp_mvalue.specs.Shared.{unshared};
-ghost use Rattle.mp_mexpr.specs.Grammar.{meaning, value_or_bad, expression_of};
-ghost use Rattle.mp_mexpr.specs.Meaning.{array_value, or_value, and_value, apply_value};
+ghost use Rattle.mp_mexpr.specs.Grammar.{meaning, value_by, value_or_bad, expression_of};
+ghost use Rattle.mp_mexpr.specs.Meaning.{array_value, or_value, and_value, apply_value, index_value};
 ghost use Rattle.mp_mexpr.specs.Readings.{GivesMeant};
 ghost use Rattle.mp_mexpr.specs.Shown.{expr_of, after};
 ghost use Rattle.mp_mexpr.specs.Steps.{step_value, steps_value};
@@ -39,7 +39,20 @@ fn value_of_bytes(alloc: Global, expr: &[u8], env: &Env) -> Result<SharedValue, 
     ensures { GivesValue result (meaning (value_in env.now) expr.now) }
 {
     let (tokens, whole) = lex(alloc, expr)?;
-    let tokens = tokens.as_slice();
+    let value = value_of_lexed(alloc, env, tokens.as_slice(), whole);
+    drop(tokens);
+    value
+}
+
+// The value of an expression of these tokens, where they may be the whole of its bytes.
+fn value_of_lexed(
+    alloc: Global,
+    env: &Env,
+    tokens: Rest,
+    whole: bool,
+) -> Result<SharedValue, MacroFault>
+    ensures { GivesValue result (value_by (value_in env.now) (toks tokens.now, whole)) }
+{
     if is_deep(tokens) {
         return refused(MacroKind::NestDeep);
     }
@@ -54,11 +67,15 @@ fn value_of_tokens(alloc: Global, env: &Env, tokens: Rest) -> Result<SharedValue
     ensures { GivesValue result (value_or_bad (value_in env.now) (expression_of (toks tokens.now))) }
 {
     match level_of(alloc, 100, 6, tokens) {
-        Ok((expr, rest)) => if rest.is_empty() {
-            value_of(alloc, env, &expr)
-        } else {
-            refused(MacroKind::BadExpression)
-        },
+        Ok((expr, rest)) => {
+            let value = if rest.is_empty() {
+                value_of(alloc, env, &expr)
+            } else {
+                refused(MacroKind::BadExpression)
+            };
+            drop(expr);
+            value
+        }
         Err(Unread::Wrong) => refused(MacroKind::BadExpression),
         Err(Unread::NoMemory) => Err(MacroFault::NoMemory),
     }
@@ -75,8 +92,8 @@ fn value_of(alloc: Global, env: &Env, expr: &Expr) -> Result<SharedValue, MacroF
         Expr::Constant(truth) => Ok(SharedValue::Truth(*truth)),
         Expr::Named(name) => name_value(env, name),
         Expr::Array(elements) => array_of(alloc, env, elements.as_slice()),
-        Expr::Negative(operand) => negative_of(&value_of(alloc, env, operand)?),
-        Expr::Not(operand) => not_of(&value_of(alloc, env, operand)?),
+        Expr::Negative(operand) => negative_of(value_of(alloc, env, operand)?),
+        Expr::Not(operand) => not_of(value_of(alloc, env, operand)?),
         Expr::Chain(first, steps) => {
             let first = value_of(alloc, env, first)?;
             after_steps(alloc, env, steps.as_slice(), first)
@@ -122,10 +139,28 @@ fn after_step(
 ) -> Result<SharedValue, MacroFault>
     ensures { GivesValue result (step_value (value_in env.now) (Ok (unshared left)) step.now) }
 {
-    match step {
+    let value = match step {
         Step::Apply(operator, right) => apply(alloc, env, right, *operator, &left),
-        Step::Index(place) => element_of(&left, &value_of(alloc, env, place)?),
-    }
+        Step::Index(place) => element_in(alloc, env, place, &left),
+    };
+    drop(left);
+    value
+}
+
+// The element of an array at a place.
+#[cycle(evaluation)]
+fn element_in(
+    alloc: Global,
+    env: &Env,
+    place: &Expr,
+    array: &SharedValue,
+) -> Result<SharedValue, MacroFault>
+    ensures { GivesValue result (index_value (Ok (unshared array.now)) (value_of (value_in env.now) (expr_of place.now))) }
+{
+    let place = value_of(alloc, env, place)?;
+    let element = element_of(array, &place);
+    drop(place);
+    element
 }
 
 // The operator with its right side.
@@ -142,7 +177,12 @@ fn apply(
     match operator {
         Operator::Or => or_of(alloc, env, right, left),
         Operator::And => and_of(alloc, env, right, left),
-        _ => strict_value(alloc, operator, left, &value_of(alloc, env, right)?),
+        _ => {
+            let right = value_of(alloc, env, right)?;
+            let value = strict_value(alloc, operator, left, &right);
+            drop(right);
+            value
+        }
     }
 }
 
@@ -159,7 +199,7 @@ fn or_of(
     if truth_of(left)? {
         return Ok(SharedValue::Truth(true));
     }
-    truth_value(&value_of(alloc, env, right)?)
+    truth_value(value_of(alloc, env, right)?)
 }
 
 // The right side counts only where the left is true.
@@ -175,5 +215,5 @@ fn and_of(
     if !truth_of(left)? {
         return Ok(SharedValue::Truth(false));
     }
-    truth_value(&value_of(alloc, env, right)?)
+    truth_value(value_of(alloc, env, right)?)
 }

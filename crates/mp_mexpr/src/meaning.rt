@@ -42,10 +42,12 @@ pub fn truth_of(value: &SharedValue) -> Result<bool, MacroFault>
 }
 
 // What is true of the value, as a value.
-pub(crate) fn truth_value(value: &SharedValue) -> Result<SharedValue, MacroFault>
-    ensures { GivesValue result (or_value (Ok (v.Truth false)) (Ok (unshared value.now))) }
+pub(crate) fn truth_value(value: SharedValue) -> Result<SharedValue, MacroFault>
+    ensures { GivesValue result (or_value (Ok (v.Truth false)) (Ok (unshared value))) }
 {
-    Ok(SharedValue::Truth(truth_of(value)?))
+    let truth = truth_of(&value);
+    drop(value);
+    Ok(SharedValue::Truth(truth?))
 }
 
 fn sum(left: i64, right: i64) -> Result<SharedValue, MacroFault>
@@ -239,14 +241,18 @@ fn of_numbers(
     }
 }
 
-pub(crate) fn not_of(operand: &SharedValue) -> Result<SharedValue, MacroFault>
-    ensures { GivesValue result (not_value (Ok (unshared operand.now))) }
+pub(crate) fn not_of(operand: SharedValue) -> Result<SharedValue, MacroFault>
+    ensures { GivesValue result (not_value (Ok (unshared operand))) }
 {
-    Ok(SharedValue::Truth(!truth_of(operand)?))
+    let truth = truth_of(&operand);
+    drop(operand);
+    Ok(SharedValue::Truth(!truth?))
 }
 
-pub(crate) fn negative_of(operand: &SharedValue) -> Result<SharedValue, MacroFault>
-    ensures { GivesValue result (negative_value (Ok (unshared operand.now))) }
+pub(crate) fn negative_of(operand: SharedValue) -> Result<SharedValue, MacroFault>
+    ensures { GivesValue result (negative_value (Ok (unshared operand))) }
 {
-    negative(whole_of(operand)?)
+    let number = whole_of(&operand);
+    drop(operand);
+    negative(number?)
 }

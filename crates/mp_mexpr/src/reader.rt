@@ -273,7 +273,7 @@ fn index_of<'a, 't>(
     places_of(alloc, room, first, rest)
 }
 
-// "[" expr "]", as long as there are.
+// An operand with the places of elements after it.
 #[cycle(reader)]
 fn places_of<'a, 't>(
     alloc: Global,
@@ -284,18 +284,32 @@ fn places_of<'a, 't>(
     ensures { Reads (λ x. (expr_of x.0, toks x.1.now)) result (repeated (length (toks tokens.now)) (past Mark.OpenBracket) (indexed (inside_at room)) (expr_of first.entry) (toks tokens.now)) }
 {
     let mut steps = Items::new(alloc);
+    let rest = add_places(alloc, room, tokens, &mut steps)?;
+    Ok((chained(alloc, first, steps)?, rest))
+}
+
+// "[" expr "]", as long as there are.
+#[cycle(reader)]
+fn add_places<'a, 't>(
+    alloc: Global,
+    room: u16,
+    tokens: Rest<'a, 't>,
+    steps: &mut Items<Step<'t>>,
+) -> Result<Rest<'a, 't>, Unread>
+    ensures { (first : s.Expr) → Reads (λ r. (all_stepped first steps.new, toks r.now)) result (repeated (length (toks tokens.now)) (past Mark.OpenBracket) (indexed (inside_at room)) (all_stepped first steps.old) (toks tokens.now)) }
+{
     let (_, mut rest) = tokens.split_at(0);
     let mut left = tokens.len();
     'turns: while left > 0 {
         let Some(after) = past(Mark::OpenBracket, rest) else {
-            return Ok((chained(alloc, first, steps)?, rest));
+            return Ok(rest);
         };
         let (place, next) = place_of(alloc, room, after)?;
         steps.push(Step::Index(place))?;
         rest = next;
         left -= 1;
     }
-    Ok((chained(alloc, first, steps)?, rest))
+    Ok(rest)
 }
 
 // What stands after "[", up to "]", where the place of an element is meant.
@@ -335,7 +349,7 @@ fn unary_of<'a, 't>(
     index_of(alloc, room, tokens)
 }
 
-// Operators of a level with their right operands, as long as there are.
+// An operand with the operators of a level after it.
 #[cycle(reader)]
 fn chain_of<'a, 't>(
     alloc: Global,
@@ -347,18 +361,33 @@ fn chain_of<'a, 't>(
     ensures { Reads (λ x. (expr_of x.0, toks x.1.now)) result (repeated (most level (toks tokens.now)) (operator_at level) (applied (level_at (inside_at room) level)) (expr_of first.entry) (toks tokens.now)) }
 {
     let mut steps = Items::new(alloc);
+    let rest = add_operators(alloc, room, level, tokens, &mut steps)?;
+    Ok((chained(alloc, first, steps)?, rest))
+}
+
+// Operators of a level with their right operands, as long as there are.
+#[cycle(reader)]
+fn add_operators<'a, 't>(
+    alloc: Global,
+    room: u16,
+    level: u8,
+    tokens: Rest<'a, 't>,
+    steps: &mut Items<Step<'t>>,
+) -> Result<Rest<'a, 't>, Unread>
+    ensures { (first : s.Expr) → Reads (λ r. (all_stepped first steps.new, toks r.now)) result (repeated (most level (toks tokens.now)) (operator_at level) (applied (level_at (inside_at room) level)) (all_stepped first steps.old) (toks tokens.now)) }
+{
     let (_, mut rest) = tokens.split_at(0);
     let mut left = most(level, tokens);
     'turns: while left > 0 {
         let Some((operator, after)) = operator_at(level, rest) else {
-            return Ok((chained(alloc, first, steps)?, rest));
+            return Ok(rest);
         };
         let (right, next) = level_of(alloc, room, level, after)?;
         steps.push(Step::Apply(operator, right))?;
         rest = next;
         left -= 1;
     }
-    Ok((chained(alloc, first, steps)?, rest))
+    Ok(rest)
 }
 
 // Below all levels an operand with its sign; else operands of the tighter level with operators between.

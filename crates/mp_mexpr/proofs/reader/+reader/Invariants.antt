@@ -1,8 +1,8 @@
 use Rattle.std.proofs.Common.{◌≡◌, ◌+◌, ◌*◌, length}
 use Rattle.mp_mexpr.specs.declared.token.Mark.TheVariants as m
 use Rattle.mp_mexpr.specs.Tokens.{toks}
-use Rattle.mp_mexpr.specs.Shown.{expr_of, after, all_stepped}
-use Rattle.mp_mexpr.specs.Syntax.{Empty}
+use Rattle.mp_mexpr.specs.Shown.{after, all_stepped}
+use Rattle.mp_mexpr.specs.Syntax.{Expr, Empty}
 use Rattle.mp_mexpr.specs.Grammar.{past, operator_at, most, repeated, applied, indexed, extended, level_at, inside_at}
 use Rattle.mp_mexpr.proofs.reader.+reader.Given as goal
 
@@ -30,6 +30,9 @@ decreases-primary_of l = 1000 * l.room + 4
 abbrev pub decreases-places_of : goal.decreases-places_of
 decreases-places_of l = 1000 * l.room + 4
 
+abbrev pub decreases-add_places : goal.decreases-add_places
+decreases-add_places l = 1000 * l.room + 3
+
 abbrev pub decreases-index_of : goal.decreases-index_of
 decreases-index_of l = 1000 * l.room + 5
 
@@ -37,10 +40,13 @@ abbrev pub decreases-unary_of : goal.decreases-unary_of
 decreases-unary_of l = 1000 * l.room + 6
 
 abbrev pub decreases-level_of : goal.decreases-level_of
-decreases-level_of l = 1000 * l.room + 7 + 2 * l.level
+decreases-level_of l = 1000 * l.room + 7 + 3 * l.level
 
 abbrev pub decreases-chain_of : goal.decreases-chain_of
-decreases-chain_of l = 1000 * l.room + 8 + 2 * l.level
+decreases-chain_of l = 1000 * l.room + 9 + 3 * l.level
+
+abbrev pub decreases-add_operators : goal.decreases-add_operators
+decreases-add_operators l = 1000 * l.room + 8 + 3 * l.level
 
 abbrev pub invariant-more_elements-turns : goal.invariant-more_elements-turns
 invariant-more_elements-turns l =
@@ -50,24 +56,18 @@ invariant-more_elements-turns l =
 abbrev pub decreases-more_elements-turns : goal.decreases-more_elements-turns
 decreases-more_elements-turns l = l.left
 
-abbrev pub invariant-places_of-turns : goal.invariant-places_of-turns
-invariant-places_of-turns l =
+abbrev pub invariant-add_places-turns : goal.invariant-add_places-turns
+invariant-add_places-turns l =
     let step = indexed (inside_at l.room) in
-    record {
-      same : expr_of l.first ≡ expr_of l.fn.first;
-      told : repeated l.left (past m.OpenBracket) step (all_stepped (expr_of l.fn.first) l.steps) (toks l.rest) ≡ repeated (length (toks l.tokens)) (past m.OpenBracket) step (expr_of l.fn.first) (toks l.tokens);
-    }
+    (first : Expr) → repeated l.left (past m.OpenBracket) step (all_stepped first l.steps) (toks l.rest) ≡ repeated (length (toks l.tokens)) (past m.OpenBracket) step (all_stepped first l.fn.steps) (toks l.tokens)
 
-abbrev pub decreases-places_of-turns : goal.decreases-places_of-turns
-decreases-places_of-turns l = l.left
+abbrev pub decreases-add_places-turns : goal.decreases-add_places-turns
+decreases-add_places-turns l = l.left
 
-abbrev pub invariant-chain_of-turns : goal.invariant-chain_of-turns
-invariant-chain_of-turns l =
+abbrev pub invariant-add_operators-turns : goal.invariant-add_operators-turns
+invariant-add_operators-turns l =
     let step = applied (level_at (inside_at l.room) l.level) in
-    record {
-      same : expr_of l.first ≡ expr_of l.fn.first;
-      told : repeated l.left (operator_at l.level) step (all_stepped (expr_of l.fn.first) l.steps) (toks l.rest) ≡ repeated (most l.level (toks l.tokens)) (operator_at l.level) step (expr_of l.fn.first) (toks l.tokens);
-    }
+    (first : Expr) → repeated l.left (operator_at l.level) step (all_stepped first l.steps) (toks l.rest) ≡ repeated (most l.level (toks l.tokens)) (operator_at l.level) step (all_stepped first l.fn.steps) (toks l.tokens)
 
-abbrev pub decreases-chain_of-turns : goal.decreases-chain_of-turns
-decreases-chain_of-turns l = l.left
+abbrev pub decreases-add_operators-turns : goal.decreases-add_operators-turns
+decreases-add_operators-turns l = l.left
