@@ -69,3 +69,11 @@ module _ {A B : Type 0} (f : A → Folded B) where
 
 pub Gives_same : {X Y : Type 0} (view : X → Y) (result : Result X ModelFault) (r s : Folded Y) → r ≡ s → Gives view result r → Gives view result s
 Gives_same view result r s is gives = subst (Gives view result) is gives
+
+-- what is made of a part that is given, or the fault that it has
+module _ {X Y Z : Type 0} (view : X → Y) (r : Result X ModelFault) (given : Folded Y) (next : Y → Folded Z) where
+  pub next_of_fault : (e : ModelFault) → r ≡ Err e → Gives view r given → Fails e (given >>= next)
+  next_of_fault e is gives = Fails-bind e given next (subst (λ s. Gives view s given) is gives)
+
+  pub next_of_given : (x : X) → r ≡ Ok x → Gives view r given → (given >>= next) ≡ next (view x)
+  next_of_given x is gives = ap (λ s. s >>= next) (subst (λ s. Gives view s given) is gives)

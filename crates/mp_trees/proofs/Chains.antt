@@ -1,15 +1,17 @@
 -- A sum or a product, joined from the left.
-use Rattle.std.proofs.Common.{◌≡◌, ℤ, List, [], ◌∷◌, Ok, Err, refl, sym, ap, ◌∙◌}
-use Rattle.mp_syntax.specs.declared.operator.Function.{Function}
-use Rattle.mp_syntax.specs.Syntax.{Expr, Binary, Call, Further, with_further}
+use Rattle.std.proofs.Common.{◌≡◌, ℕ, ℤ, List, [], ◌∷◌, Result, Ok, Err, refl, sym, ap, ◌∙◌}
+use Rattle.std.specs.Prelude.{IfOk}
+use Rattle.mp_syntax.specs.Syntax.{Expr, Binary, Further, with_further}
 use Rattle.mp_semantics.specs.Term as sem
 use Rattle.mp_semantics.specs.Term.{Term, binary, power_of}
 use Rattle.mp_values.specs.Names.{Names}
 use Rattle.mp_values.specs.Limits.{◌>>=◌, binary_of}
-use Rattle.mp_values.specs.ModelOf.{Locals, binary_called}
+use Rattle.mp_values.specs.ModelOf.{Locals}
 use Rattle.mp_values.specs.From.{Taken, term_from, first_of, rest_of}
 use Rattle.mp_trees.specs.declared.fault.ModelFault.{ModelFault}
-use Rattle.mp_trees.specs.Gives.{Fails}
+use Rattle.mp_graph.specs.Shared.{term_at}
+use Rattle.mp_trees.specs.Earlier.{HasEarlier}
+use Rattle.mp_trees.specs.Gives.{Fails, Gives}
 use Rattle.mp_trees.specs.Parts.{further_from}
 use Rattle.mp_trees.proofs.Bound.{bind-Ok, Fails-bind, Fails_same}
 
@@ -40,9 +42,18 @@ term_chain ns ls e (f ∷ more) ks = term_chain ns ls (Binary f.op e f.at f.oper
 pub power_taken : (x y : Term) (k : ℤ) (ks js : List ℤ) → k ≡ first_of ks → js ≡ rest_of ks → y ≡ power_of x k → (let r : Taken Term = Ok (power_of x (first_of ks), rest_of ks) in let s : Taken Term = Ok (y, js) in r ≡ s)
 power_taken x y k ks js e f g = cc (e, f, g)
 
+-- a function of a first operand, and a second one that was taken
+abbrev pub called_with : sem.Binary → Term → Term × List ℤ → Taken Term
+called_with o x y = Ok (binary o x y.0, y.1)
+
 -- the two operands of a call, the first of which stays what it was
-pub call_taken : (ns : Names) (ls : Locals) (f : Function) (a b : Expr) (ks js is : List ℤ) (x still y t : Term) (o : sem.Binary) → term_from ns ls a ks ≡ Ok (x, js) → term_from ns ls b js ≡ Ok (y, is) → still ≡ x → o ≡ binary_called f → t ≡ binary o still y → term_from ns ls (Call f a b) ks ≡ Ok (t, is)
-call_taken ns ls f a b ks js is x still y t o p q e h g = rw (p, q) (cc (e, h, g))
+pub call_same : (r s : Taken Term) (o : sem.Binary) (x still : Term) → r ≡ s → still ≡ x → (r >>= called_with o still) ≡ (s >>= called_with o x)
+call_same r s o x still p q = ap (λ t. r >>= called_with o t) q ∙ ap (λ t. t >>= called_with o x) p
+
+-- a term that is given is one whose difference can be taken
+pub earlier_of_given : (ts : List Term) (r : Result ℕ ModelFault) (given : Taken Term) (ks : List ℤ) → Gives (λ id. (term_at ts id, ks)) r given → ((t : Term) → given ≡ Ok (t, ks) → HasEarlier t) → IfOk r (λ id. HasEarlier (term_at ts id))
+earlier_of_given ts (Ok id) given ks gives has = has (term_at ts id) gives
+earlier_of_given ts (Err e) given ks gives has = tt
 
 -- ---- one more operand
 module _ (ns : Names) (ls : Locals) (x : Term) (f : Further) (rest : List Further) (ks : List ℤ) (whole : Taken Term) (so_far : further_from ns ls x (f ∷ rest) ks ≡ whole) where

@@ -9,8 +9,6 @@ use Rattle.mp_statements.specs.Statements as f
 use Rattle.mp_statements.specs.Statements.{Item, Local, Equates}
 use Rattle.mp_statements.specs.Parts.{name_of}
 use Rattle.mp_statements.specs.Sides.{right_side}
-use Rattle.mp_file.specs.declared.Item as file
-use Rattle.mp_file.specs.Shown.{item_of}
 use Rattle.mp_semantics.specs.Model as m
 use Rattle.mp_semantics.specs.Term.{Term}
 use Rattle.mp_semantics.specs.Shifted.{earlier}
@@ -89,9 +87,6 @@ module _ (ns : Names) (whole : Taken Equations) (g : Shared) (made : Made) (item
 
   pub rest_at : (others : List Item) → items ≡ others → IsRest ns whole g made others ks
   rest_at others e = subst (λ l. IsRest ns whole g made l ks) e r
-
-pub item_rest : (ns : Names) (whole : Taken Equations) (g : Shared) (made : Made) (x y : file.Item) (more : List Item) (ks : List ℤ) → x ≡ y → IsRest ns whole g made (item_of x ∷ more) ks → IsRest ns whole g made (item_of y ∷ more) ks
-item_rest ns whole g made x y more ks e r = subst (λ z. IsRest ns whole g made (item_of z ∷ more) ks) e r
 
 -- ---- a local stands for its node further on
 module _ (ns : Names) (whole : Taken Equations) (g : Shared) (made : Made) (name : Named) (value : Expr) (more : List Item) (ks : List ℤ) (r : IsRest ns whole g made (Local name value ∷ more) ks) where

@@ -1,16 +1,16 @@
 // The nodes of expressions.
-ghost use Rattle.std.specs.Prelude.{◌≡◌, ◌<◌, ◌≤◌, length, map, unsigned_abs, IfOk};
+ghost use Rattle.std.specs.Prelude.{◌≡◌, ◌<◌, ◌≤◌, ℤ, List, Ok, length, map, unsigned_abs, IfOk};
 ghost use Rattle.std.specs.List.{AllByRecursion};
 ghost use Rattle.mp_file.specs.Shown.{expr_of, further_of};
-ghost use Rattle.mp_semantics.specs.Term.{power_of};
-ghost use Rattle.mp_semantics.specs.Shifted.{earlier};
+ghost use Rattle.mp_semantics.specs.Term.{Term, binary, power_of};
+ghost use Rattle.mp_semantics.specs.Shifted.{earlier, difference};
 ghost use Rattle.mp_graph.specs.Images.{AreImages};
 ghost use Rattle.mp_graph.specs.Op as shown;
 ghost use Rattle.mp_graph.specs.Shared.{term_at, Says, Keeps};
-ghost use Rattle.mp_values.specs.Limits.{binary_of};
+ghost use Rattle.mp_values.specs.Limits.{◌>>=◌ as then, binary_of};
 ghost use Rattle.mp_values.specs.ModelOf.{signed_term, binary_called};
-ghost use Rattle.mp_values.specs.From.{term_from};
-ghost use Rattle.mp_trees.specs.Earlier.{HasDifferences};
+ghost use Rattle.mp_values.specs.From.{Taken, term_from, first_of, rest_of};
+ghost use Rattle.mp_trees.specs.Earlier.{HasDifferences, HasEarlier};
 ghost use Rattle.mp_trees.specs.Gives.{Gives};
 ghost use Rattle.mp_trees.specs.Locals.{locals_in, AreNodes};
 ghost use Rattle.mp_trees.specs.Parts.{further_from};
@@ -70,6 +70,80 @@ fn power_node(graph: &mut Graph<'_>, base: NodeId, exponent: i8) -> Result<NodeI
     graph.intern(NodeOp::Pow(exponent), &[base])
 }
 
+// The operand with the sign before it, if there is one; its fault otherwise.
+fn with_sign<'t>(
+    graph: &mut Graph<'t>,
+    sign: Sign,
+    operand: Result<NodeId, ModelFault<'t>>,
+) -> Result<NodeId, ModelFault<'t>>
+    requires { IfOk operand (λ id. id < length graph.old.terms) }
+    ensures node { (ks : List ℤ) (given : Taken Term) → Gives {Y = Term × List ℤ} (λ id. (term_at graph.old.terms id, ks)) operand.entry given → Gives {Y = Term × List ℤ} (λ id. (term_at graph.new.terms id, ks)) result (then given (λ x. Ok (signed_term sign x.0, x.1))) }
+    ensures within { IfOk result (λ id. id < length graph.new.terms) }
+    ensures kept { Keeps graph.old graph.new }
+{
+    match operand {
+        Ok(operand) => Ok(signed_node(graph, sign, operand)?),
+        Err(fault) => Err(fault),
+    }
+}
+
+// The power of a base by the next exponent, if there is a base; its fault otherwise.
+fn raised<'t>(
+    graph: &mut Graph<'t>,
+    base: Result<NodeId, ModelFault<'t>>,
+    exponents: &mut Exponents<'_>,
+) -> Result<NodeId, ModelFault<'t>>
+    requires { IfOk base (λ id. id < length graph.old.terms) }
+    ensures node { (given : Taken Term) → Gives {Y = Term × List ℤ} (λ id. (term_at graph.old.terms id, exponents.old)) base.entry given → Gives {Y = Term × List ℤ} (λ id. (term_at graph.new.terms id, exponents.new)) result (then given (λ x. Ok (power_of x.0 (first_of x.1), rest_of x.1))) }
+    ensures within { IfOk result (λ id. id < length graph.new.terms) }
+    ensures kept { Keeps graph.old graph.new }
+{
+    match base {
+        Ok(base) => Ok(power_node(graph, base, exponents.next())?),
+        Err(fault) => Err(fault),
+    }
+}
+
+// The function of a first operand and a second one, if there is a second; its fault otherwise.
+fn called<'t>(
+    graph: &mut Graph<'t>,
+    function: Function,
+    first: NodeId,
+    second: Result<NodeId, ModelFault<'t>>,
+) -> Result<NodeId, ModelFault<'t>>
+    requires first { first < length graph.old.terms }
+    requires second { IfOk second (λ id. id < length graph.old.terms) }
+    ensures node { (ks : List ℤ) (given : Taken Term) → Gives {Y = Term × List ℤ} (λ id. (term_at graph.old.terms id, ks)) second.entry given → Gives {Y = Term × List ℤ} (λ id. (term_at graph.new.terms id, ks)) result (then given (λ y. Ok (binary (binary_called function) (term_at graph.old.terms first) y.0, y.1))) }
+    ensures within { IfOk result (λ id. id < length graph.new.terms) }
+    ensures kept { Keeps graph.old graph.new }
+{
+    match second {
+        Ok(second) => Ok(graph.intern(NodeOp::Binary(calling(function)), &[first, second])?),
+        Err(fault) => Err(fault),
+    }
+}
+
+// What an operand gained since the period before, if there is one; its fault otherwise.
+fn gained<'t>(
+    alloc: Global,
+    graph: &mut Graph<'t>,
+    images: &mut Images,
+    operand: Result<NodeId, ModelFault<'t>>,
+) -> Result<NodeId, ModelFault<'t>>
+    requires within { IfOk operand (λ id. id < length graph.old.terms) }
+    requires images { AreImages graph.old images.old earlier }
+    requires shifts { IfOk operand (λ id. HasEarlier (term_at graph.old.terms id)) }
+    ensures node { (ks : List ℤ) (given : Taken Term) → Gives {Y = Term × List ℤ} (λ id. (term_at graph.old.terms id, ks)) operand.entry given → Gives {Y = Term × List ℤ} (λ id. (term_at graph.new.terms id, ks)) result (then given (λ x. Ok (difference x.0, x.1))) }
+    ensures within { IfOk result (λ id. id < length graph.new.terms) }
+    ensures kept { Keeps graph.old graph.new }
+    ensures images { AreImages graph.new images.new earlier }
+{
+    match operand {
+        Ok(operand) => Ok(difference_node(alloc, graph, images, operand)?),
+        Err(fault) => Err(fault),
+    }
+}
+
 /// The node of an expression, where a name stands for the node of a local, or has its number among the names of the
 /// graph, and exponents are taken in text order. The images are those of earlier expressions. After a fault the graph may
 /// have grown.
@@ -95,8 +169,8 @@ pub fn node_of<'t>(
         Expression::Variable { name } => name_node(graph, locals, *name, None),
         Expression::Shifted { name, shift } => name_node(graph, locals, *name, Some(*shift.get())),
         Expression::Signed { sign, operand } => {
-            let operand = node_of(alloc, graph, locals, images, operand.get(), exponents)?;
-            Ok(signed_node(graph, *sign, operand)?)
+            let operand = node_of(alloc, graph, locals, images, operand.get(), exponents);
+            with_sign(graph, *sign, operand)
         }
         Expression::Chain { first, more } => {
             let first = node_of(alloc, graph, locals, images, first.get(), exponents)?;
@@ -111,8 +185,8 @@ pub fn node_of<'t>(
             )
         }
         Expression::Power { base, .. } => {
-            let base = node_of(alloc, graph, locals, images, base.get(), exponents)?;
-            Ok(power_node(graph, base, exponents.next())?)
+            let base = node_of(alloc, graph, locals, images, base.get(), exponents);
+            raised(graph, base, exponents)
         }
         Expression::Paren { inside } => {
             node_of(alloc, graph, locals, images, inside.get(), exponents)
@@ -123,13 +197,12 @@ pub fn node_of<'t>(
             second,
         } => {
             let first = node_of(alloc, graph, locals, images, first.get(), exponents)?;
-            let second = node_of(alloc, graph, locals, images, second.get(), exponents)?;
-            let op = NodeOp::Binary(calling(*function));
-            Ok(graph.intern(op, &[first, second])?)
+            let second = node_of(alloc, graph, locals, images, second.get(), exponents);
+            called(graph, *function, first, second)
         }
         Expression::Diff { inside, .. } => {
-            let inside = node_of(alloc, graph, locals, images, inside.get(), exponents)?;
-            Ok(difference_node(alloc, graph, images, inside)?)
+            let inside = node_of(alloc, graph, locals, images, inside.get(), exponents);
+            gained(alloc, graph, images, inside)
         }
     }
 }

@@ -41,11 +41,23 @@ pub fn model<'t>(
     ensures { Gives model_data result (model_at (file_of file.now) table.now) }
 {
     mp_values::exponents_law();
-    let parameters = parameters_of(alloc, table)?;
+    let parameters = match parameters_of(alloc, table) {
+        Ok(parameters) => parameters,
+        Err(fault) => {
+            drop(names);
+            return Err(fault);
+        }
+    };
     let mut graph = Graph::new(alloc, names);
     let mut exponents = Exponents::of(exponents);
-    let equations = equations_of_file(alloc, &mut graph, file, &mut exponents)?;
-    Ok(Model::new(graph, parameters, equations))
+    match equations_of_file(alloc, &mut graph, file, &mut exponents) {
+        Ok(equations) => Ok(Model::new(graph, parameters, equations)),
+        Err(fault) => {
+            drop(parameters);
+            drop(graph);
+            Err(fault)
+        }
+    }
 }
 
 // The parameters with their values.
@@ -53,11 +65,28 @@ fn parameters_of<'t>(alloc: Global, table: &Table<'t>) -> Result<Vec<Parameter<'
     ensures { Gives (λ v. map parameter_of v.items) result (parameters_given table.now) }
 {
     let mut found = Vec::new(alloc);
+    match find_parameters(table, &mut found) {
+        Ok(()) => Ok(found),
+        Err(fault) => {
+            drop(found);
+            Err(fault)
+        }
+    }
+}
+
+// Finds the parameters with their values; none is found yet.
+fn find_parameters<'t>(
+    table: &Table<'t>,
+    found: &mut Vec<Parameter<'t>>,
+) -> Result<(), ModelFault<'t>>
+    requires { found.old.items ≡ [] }
+    ensures { Gives (λ u. map parameter_of found.new.items) result (parameters_given table.now) }
+{
     'turns: for place in 0..table.count() {
         let parameter = parameter(entry_at(table, place))?;
-        push(&mut found, parameter)?;
+        push(found, parameter)?;
     }
-    Ok(found)
+    Ok(())
 }
 
 fn entry_at<'t>(table: &Table<'t>, place: usize) -> Entry<'t>

@@ -1,8 +1,11 @@
 // The items of a model.
-ghost use Rattle.std.specs.Prelude.{◌≡◌, [], ◌∷◌, map, IfOk};
+ghost use Rattle.std.specs.Prelude.{◌≡◌, [], ◌∷◌, map, IfOk, OnOk};
 ghost use Rattle.std.specs.List.{AllByRecursion};
+ghost use Rattle.mp_statements.specs.Statements.{Local, Equates};
 ghost use Rattle.mp_statements.specs.Parts.{items_in, items_of};
-ghost use Rattle.mp_file.specs.Shown.{item_of, statement_of, file_of};
+ghost use Rattle.mp_file.specs.Shown.{item_of, named_of, expr_of, equation_of, statement_of, file_of};
+ghost use Rattle.mp_semantics.specs.Shifted.{earlier};
+ghost use Rattle.mp_graph.specs.Images.{AreImages};
 ghost use Rattle.mp_graph.specs.Shared.{Keeps};
 ghost use Rattle.mp_model_data.specs.Shown.{equation_in, sides_of, IsWithin};
 ghost use Rattle.mp_values.specs.From.{items_from};
@@ -16,7 +19,7 @@ use crate::expression::node_of;
 use crate::fault::ModelFault;
 use crate::locals::Locals;
 use mp_base::NoMemory;
-use mp_file::{File, Item, Statement};
+use mp_file::{Expression, File, Item, Named, Statement};
 use mp_graph::{Graph, Images};
 use mp_model_data::Equation;
 use std::alloc::Global;
@@ -46,10 +49,43 @@ pub(crate) fn equations_of_file<'t>(
         images: Images::new(alloc),
         equations: Vec::new(alloc),
     };
-    'turns: for statement in file.statements.as_slice() {
-        make_each(alloc, graph, &mut made, items_of(statement), exponents)?;
+    let all = make_all(alloc, graph, &mut made, file, exponents);
+    let Made {
+        locals,
+        images,
+        equations,
+    } = made;
+    drop(locals);
+    drop(images);
+    match all {
+        Ok(()) => Ok(equations),
+        Err(fault) => {
+            drop(equations);
+            Err(fault)
+        }
     }
-    Ok(made.equations)
+}
+
+// Makes what the items of a file give; nothing is made yet.
+fn make_all<'t>(
+    alloc: Global,
+    graph: &mut Graph<'t>,
+    made: &mut Made<'t>,
+    file: &File<'t>,
+    exponents: &mut Exponents<'_>,
+) -> Result<(), ModelFault<'t>>
+    requires shifts { ItemsHaveDifferences graph.old.names [] (items_of (file_of file.now)) }
+    requires locals { made.old.locals ≡ [] }
+    requires images { AreImages graph.old made.old.images earlier }
+    requires equations { made.old.equations.items ≡ [] }
+    ensures equations { Gives (λ u. (map (equation_in graph.new.terms) (map sides_of made.new.equations.items), exponents.new)) result (items_from graph.old.names [] (items_of (file_of file.now)) exponents.old) }
+    ensures within { OnOk result (AllByRecursion (IsWithin graph.new) (map sides_of made.new.equations.items)) }
+    ensures kept { Keeps graph.old graph.new }
+{
+    'turns: for statement in file.statements.as_slice() {
+        make_each(alloc, graph, made, items_of(statement), exponents)?;
+    }
+    Ok(())
 }
 
 // The items that a statement holds.
@@ -95,30 +131,57 @@ fn make<'t>(
     ensures kept { Keeps graph.old graph.new }
 {
     match item {
-        Item::Local { name, value } => {
-            let node = node_of(
-                alloc,
-                graph,
-                &made.locals,
-                &mut made.images,
-                value,
-                exponents,
-            )?;
-            Ok(made.locals.add(name.name, node)?)
-        }
-        Item::Equates { equation } => {
-            let equation = equation_nodes(
-                alloc,
-                graph,
-                &made.locals,
-                &mut made.images,
-                equation,
-                exponents,
-            )?;
-            let Ok(()) = made.equations.push(equation) else {
-                return Err(ModelFault::NoMemory);
-            };
-            Ok(())
-        }
+        Item::Local { name, value } => make_local(alloc, graph, made, name, value, exponents),
+        Item::Equates { equation } => make_equation(alloc, graph, made, equation, exponents),
     }
+}
+
+// Makes the node that a local stands for further on.
+fn make_local<'t>(
+    alloc: Global,
+    graph: &mut Graph<'t>,
+    made: &mut Made<'t>,
+    name: &Named<'t>,
+    value: &Expression<'t>,
+    exponents: &mut Exponents<'_>,
+) -> Result<(), ModelFault<'t>>
+    requires { AreNext graph.old made.old (Local (named_of name.now) (expr_of value.now) ∷ []) exponents.old }
+    ensures makes { Makes result graph.old made.old exponents.old (Local (named_of name.now) (expr_of value.now) ∷ []) graph.new made.new exponents.new }
+    ensures kept { Keeps graph.old graph.new }
+{
+    let node = node_of(
+        alloc,
+        graph,
+        &made.locals,
+        &mut made.images,
+        value,
+        exponents,
+    )?;
+    Ok(made.locals.add(name.name, node)?)
+}
+
+// Makes an equation, which is added.
+fn make_equation<'t>(
+    alloc: Global,
+    graph: &mut Graph<'t>,
+    made: &mut Made<'t>,
+    equation: &mp_file::Equation<'t>,
+    exponents: &mut Exponents<'_>,
+) -> Result<(), ModelFault<'t>>
+    requires { AreNext graph.old made.old (Equates (equation_of equation.now) ∷ []) exponents.old }
+    ensures makes { Makes result graph.old made.old exponents.old (Equates (equation_of equation.now) ∷ []) graph.new made.new exponents.new }
+    ensures kept { Keeps graph.old graph.new }
+{
+    let equation = equation_nodes(
+        alloc,
+        graph,
+        &made.locals,
+        &mut made.images,
+        equation,
+        exponents,
+    )?;
+    let Ok(()) = made.equations.push(equation) else {
+        return Err(ModelFault::NoMemory);
+    };
+    Ok(())
 }

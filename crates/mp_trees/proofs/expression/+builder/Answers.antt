@@ -1,4 +1,4 @@
-use Rattle.std.proofs.Common.{rules, Ok, map, drop, ◌+◌, refl, sym, ap, subst, ◌∙◌, arith}
+use Rattle.std.proofs.Common.{map, drop, ◌+◌, refl, sym, ap, subst, ◌∙◌, arith}
 use Rattle.std.proofs.lemmas.Result.{err_from_is_err_and}
 use Rattle.std.specs.List.{AllByRecursion}
 use Rattle.mp_syntax.specs.Syntax as s
@@ -9,26 +9,27 @@ use Rattle.mp_graph.specs.Op as shown
 use Rattle.mp_graph.specs.Shared.{term_at}
 use Rattle.mp_graph.proofs.Kept.{keeps-trans}
 use Rattle.mp_values.specs.From.{term_from}
+use Rattle.mp_values.specs.ModelOf.{binary_called}
 use Rattle.mp_trees.specs.Earlier.{HasDifferences}
 use Rattle.mp_trees.specs.Locals.{locals_in}
 use Rattle.mp_trees.specs.Parts.{further_from}
 use Rattle.mp_trees.proofs.Alike.{nodes_kept, term_kept, differences_kept, further_kept, images_kept}
 use Rattle.mp_trees.proofs.Bound.{Fails-bind, Fails_same, Gives_same}
-use Rattle.mp_trees.proofs.Chains.{term_chain, power_taken, call_taken, further_fails, further_turn}
+use Rattle.mp_trees.proofs.Chains.{term_chain, call_same, earlier_of_given, further_fails, further_turn}
 use Rattle.mp_trees.proofs.Entries.{drop_same}
 use Rattle.mp_trees.proofs.Under.{signed_under, power_under, paren_under, diff_under, first_of_chain, more_of_chain, first_of_call, second_of_call, inside_of_diff}
 use Rattle.mp_trees.proofs.Weights.{signed_less, chain_less, more_less, power_less, paren_less, first_less, second_less, diff_less, operand_less}
 use Rattle.mp_trees.proofs.expression.+builder.Goals as goal
 
 -- ---- what the calls ask
-pub node_of-node_of-requires : goal.node_of-node_of-requires
-node_of-node_of-requires t c = (
+pub node_of-node_of-operand-requires : goal.node_of-node_of-operand-requires
+node_of-node_of-operand-requires t c = (
   omega (arith, c.decreases, signed_less c.args.expression.now c.get-in-Signed.result.now c.in-Signed.operand c.in-Signed.sign c.in-Signed.is c.get-in-Signed.ensures),
   (c.requires.locals, (c.requires.images, signed_under c.args.graph.now.names (locals_in c.args.graph.now.terms c.args.locals.now) c.args.expression.now c.get-in-Signed.result.now c.in-Signed.operand c.in-Signed.sign c.requires.shifts c.in-Signed.is c.get-in-Signed.ensures)),
 )
 
-pub node_of-node_of-requires-in-Chain : goal.node_of-node_of-requires-in-Chain
-node_of-node_of-requires-in-Chain t c = (
+pub node_of-node_of-requires : goal.node_of-node_of-requires
+node_of-node_of-requires t c = (
   omega (arith, c.decreases, chain_less c.args.expression.now c.get-in-Chain.result.now c.in-Chain.first c.in-Chain.more c.in-Chain.is c.get-in-Chain.ensures),
   (c.requires.locals, (c.requires.images, first_of_chain c.args.graph.now.names (locals_in c.args.graph.now.terms c.args.locals.now) c.args.expression.now c.get-in-Chain.result.now c.in-Chain.first c.in-Chain.more c.requires.shifts c.in-Chain.is c.get-in-Chain.ensures)),
 )
@@ -39,17 +40,17 @@ node_of-further_node-requires t c = (
   (
     c.in_ok-first-in-Chain.ensures.within,
     (
-      nodes_kept c.args.graph.now c.node_of-in-Chain.new.graph c.args.locals.now c.in_ok-first-in-Chain.ensures.kept c.requires.locals,
+      nodes_kept c.args.graph.now c.node_of.new.graph c.args.locals.now c.in_ok-first-in-Chain.ensures.kept c.requires.locals,
       (
         c.in_ok-first-in-Chain.ensures.images,
-        more_of_chain c.args.graph.now c.node_of-in-Chain.new.graph c.args.locals.now c.args.expression.now c.in-Chain.first c.as_slice.result.now c.in-Chain.more c.in_ok-first-in-Chain.ensures.kept c.requires.locals c.requires.shifts c.in-Chain.is c.as_slice.ensures,
+        more_of_chain c.args.graph.now c.node_of.new.graph c.args.locals.now c.args.expression.now c.in-Chain.first c.as_slice.result.now c.in-Chain.more c.in_ok-first-in-Chain.ensures.kept c.requires.locals c.requires.shifts c.in-Chain.is c.as_slice.ensures,
       ),
     ),
   ),
 )
 
-pub node_of-node_of-requires-in-Power : goal.node_of-node_of-requires-in-Power
-node_of-node_of-requires-in-Power t c = (
+pub node_of-node_of-base-requires : goal.node_of-node_of-base-requires
+node_of-node_of-base-requires t c = (
   omega (arith, c.decreases, power_less c.args.expression.now c.get-in-Power.result.now c.in-Power.base c.in-Power.exponent c.in-Power.at c.in-Power.sign c.in-Power.is c.get-in-Power.ensures),
   (c.requires.locals, (c.requires.images, power_under c.args.graph.now.names (locals_in c.args.graph.now.terms c.args.locals.now) c.args.expression.now c.get-in-Power.result.now c.in-Power.base c.in-Power.exponent c.in-Power.at c.in-Power.sign c.requires.shifts c.in-Power.is c.get-in-Power.ensures)),
 )
@@ -66,8 +67,8 @@ node_of-node_of-requires-in-Call t c = (
   (c.requires.locals, (c.requires.images, first_of_call c.args.graph.now.names (locals_in c.args.graph.now.terms c.args.locals.now) c.args.expression.now c.get-in-Call.result.now c.in-Call.first c.in-Call.second c.in-Call.function c.requires.shifts c.in-Call.is c.get-in-Call.ensures)),
 )
 
-pub node_of-node_of-requires-in-Call-2 : goal.node_of-node_of-requires-in-Call-2
-node_of-node_of-requires-in-Call-2 t c = (
+pub node_of-node_of-second-requires : goal.node_of-node_of-second-requires
+node_of-node_of-second-requires t c = (
   omega (arith, c.decreases, second_less c.args.expression.now c.get-in-Call-2.result.now c.in-Call.first c.in-Call.second c.in-Call.function c.in-Call.is c.get-in-Call-2.ensures),
   (
     nodes_kept c.args.graph.now c.node_of-in-Call.new.graph c.args.locals.now c.in_ok-first-in-Call.ensures.kept c.requires.locals,
@@ -78,32 +79,21 @@ node_of-node_of-requires-in-Call-2 t c = (
   ),
 )
 
-pub node_of-node_of-requires-in-Diff : goal.node_of-node_of-requires-in-Diff
-node_of-node_of-requires-in-Diff t c = (
+pub node_of-node_of-inside-requires : goal.node_of-node_of-inside-requires
+node_of-node_of-inside-requires t c = (
   omega (arith, c.decreases, diff_less c.args.expression.now c.get-in-Diff.result.now c.in-Diff.inside c.in-Diff.at c.in-Diff.is c.get-in-Diff.ensures),
   (c.requires.locals, (c.requires.images, inside_of_diff c.args.graph.now.names (locals_in c.args.graph.now.terms c.args.locals.now) c.args.expression.now c.get-in-Diff.result.now c.in-Diff.inside c.in-Diff.at c.requires.shifts c.in-Diff.is c.get-in-Diff.ensures)),
 )
 
-pub node_of-difference_node-requires-clause-shifts : goal.node_of-difference_node-requires-clause-shifts
-node_of-difference_node-requires-clause-shifts t c =
-    (diff_under c.args.graph.now.names (locals_in c.args.graph.now.terms c.args.locals.now) c.args.expression.now c.get-in-Diff.result.now c.in-Diff.inside c.in-Diff.at c.requires.shifts c.in-Diff.is c.get-in-Diff.ensures).1
-    c.args.exponents.now c.node_of-in-Diff.new.exponents (term_at c.node_of-in-Diff.new.graph.terms c.in_ok-inside-in-Diff.inside) c.in_ok-inside-in-Diff.ensures.node
+pub node_of-gained-requires-clause-shifts : goal.node_of-gained-requires-clause-shifts
+node_of-gained-requires-clause-shifts t c =
+    let has = (diff_under c.args.graph.now.names (locals_in c.args.graph.now.terms c.args.locals.now) c.args.expression.now c.get-in-Diff.result.now c.in-Diff.inside c.in-Diff.at c.requires.shifts c.in-Diff.is c.get-in-Diff.ensures).1 in
+    earlier_of_given c.node_of-inside.new.graph.terms c.node_of-inside.result _ c.node_of-inside.new.exponents c.node_of-inside.ensures.node (has c.args.exponents.now c.node_of-inside.new.exponents)
 
 -- ---- the nodes
-pub node_of-returns-in_err-operand-in-Signed-clause-node : goal.node_of-returns-in_err-operand-in-Signed-clause-node
-node_of-returns-in_err-operand-in-Signed-clause-node t c =
-    let p = err_from_is_err_and c.from_residual.result c.from_residual.ensures.1 in
-    let ls = locals_in c.args.graph.now.terms c.args.locals.now in
-    rw (p.1, p.2, signed_is c.in-Signed.is c.get-in-Signed.ensures) (Fails-bind _ (term_from c.args.graph.now.names ls (expr_of c.get-in-Signed.result.now) c.args.exponents.now) _ c.in_err-operand-in-Signed.ensures.node)
-
-pub node_of-returns-in_ok-signed_node-in-Signed-clause-node : goal.node_of-returns-in_ok-signed_node-in-Signed-clause-node
-node_of-returns-in_ok-signed_node-in-Signed-clause-node t c =
-    let says = sym c.in_ok-signed_node-in-Signed.ensures.says.term in
-    rw (signed_is c.in-Signed.is c.get-in-Signed.ensures, c.in_ok-operand-in-Signed.ensures.node) (ap (λ x. Ok (x, c.node_of.new.exponents)) says)
-
 pub node_of-returns-in_err-first-in-Chain-clause-node : goal.node_of-returns-in_err-first-in-Chain-clause-node
 node_of-returns-in_err-first-in-Chain-clause-node t c =
-    let p = err_from_is_err_and c.from_residual-in_err-first-in-Chain.result c.from_residual-in_err-first-in-Chain.ensures.1 in
+    let p = err_from_is_err_and c.from_residual.result c.from_residual.ensures.1 in
     let e = expr_of c.get-in-Chain.result.now in
     let ls = locals_in c.args.graph.now.terms c.args.locals.now in
     rw (p.1, p.2, chain_is c.in-Chain.is c.get-in-Chain.ensures refl, term_chain c.args.graph.now.names ls e (map further_of c.in-Chain.more) c.args.exponents.now) (Fails-bind _ (term_from c.args.graph.now.names ls e c.args.exponents.now) _ c.in_err-first-in-Chain.ensures.node)
@@ -111,22 +101,9 @@ node_of-returns-in_err-first-in-Chain-clause-node t c =
 pub node_of-returns-in_ok-first-in-Chain-clause-node : goal.node_of-returns-in_ok-first-in-Chain-clause-node
 node_of-returns-in_ok-first-in-Chain-clause-node t c =
     let ls = locals_in c.args.graph.now.terms c.args.locals.now in
-    let x = term_at c.node_of-in-Chain.new.graph.terms c.in_ok-first-in-Chain.first in
+    let x = term_at c.node_of.new.graph.terms c.in_ok-first-in-Chain.first in
     rw (chain_is c.in-Chain.is c.get-in-Chain.ensures c.as_slice.ensures, term_chain c.args.graph.now.names ls (expr_of c.get-in-Chain.result.now) (map further_of c.as_slice.result.now) c.args.exponents.now, c.in_ok-first-in-Chain.ensures.node)
-    (Gives_same _ c.further_node.result _ _ (further_kept c.args.graph.now c.node_of-in-Chain.new.graph c.args.locals.now c.in_ok-first-in-Chain.ensures.kept c.requires.locals x (map further_of c.as_slice.result.now) c.node_of-in-Chain.new.exponents) c.further_node.ensures.node)
-
-pub node_of-returns-in_err-base-in-Power-clause-node : goal.node_of-returns-in_err-base-in-Power-clause-node
-node_of-returns-in_err-base-in-Power-clause-node t c =
-    let p = err_from_is_err_and c.from_residual-in_err-base-in-Power.result c.from_residual-in_err-base-in-Power.ensures.1 in
-    let ls = locals_in c.args.graph.now.terms c.args.locals.now in
-    rw (p.1, p.2, power_is c.in-Power.is c.get-in-Power.ensures refl) (Fails-bind _ (term_from c.args.graph.now.names ls (expr_of c.get-in-Power.result.now) c.args.exponents.now) _ c.in_err-base-in-Power.ensures.node)
-
-pub node_of-returns-in_ok-power_node-in-Power-clause-node : goal.node_of-returns-in_ok-power_node-in-Power-clause-node
-node_of-returns-in_ok-power_node-in-Power-clause-node t c =
-    let x = term_at c.node_of-in-Power.new.graph.terms c.in_ok-base-in-Power.base in
-    let y = term_at c.power_node.new.graph.terms c.in_ok-power_node-in-Power.field-0 in
-    rw (power_is c.in-Power.is c.get-in-Power.ensures refl, c.in_ok-base-in-Power.ensures.node)
-    (power_taken x y c.next.result c.node_of-in-Power.new.exponents c.next.new.self c.next.ensures.first c.next.ensures.rest (search rules))
+    (Gives_same _ c.further_node.result _ _ (further_kept c.args.graph.now c.node_of.new.graph c.args.locals.now c.in_ok-first-in-Chain.ensures.kept c.requires.locals x (map further_of c.as_slice.result.now) c.node_of.new.exponents) c.further_node.ensures.node)
 
 pub node_of-returns-in-Paren-clause-node : goal.node_of-returns-in-Paren-clause-node
 node_of-returns-in-Paren-clause-node t c = rw (paren_is c.in-Paren.is c.get-in-Paren.ensures) c.node_of-in-Paren.ensures.node
@@ -137,42 +114,29 @@ node_of-returns-in_err-first-in-Call-clause-node t c =
     let ls = locals_in c.args.graph.now.terms c.args.locals.now in
     rw (p.1, p.2, call_is c.in-Call.is c.get-in-Call.ensures refl) (Fails-bind _ (term_from c.args.graph.now.names ls (expr_of c.get-in-Call.result.now) c.args.exponents.now) _ c.in_err-first-in-Call.ensures.node)
 
-pub node_of-returns-in_err-second-in-Call-clause-node : goal.node_of-returns-in_err-second-in-Call-clause-node
-node_of-returns-in_err-second-in-Call-clause-node t c =
-    let p = err_from_is_err_and c.from_residual-in_err-second-in-Call.result c.from_residual-in_err-second-in-Call.ensures.1 in
-    let b = expr_of c.get-in-Call-2.result.now in
-    let ks = c.node_of-in-Call.new.exponents in
-    let ls = locals_in c.args.graph.now.terms c.args.locals.now in
-    let e = c.in_err-second-in-Call.field-0.0 in
-    rw (p.1, p.2, call_is c.in-Call.is c.get-in-Call.ensures c.get-in-Call-2.ensures, c.in_ok-first-in-Call.ensures.node)
-    (Fails-bind e (term_from c.args.graph.now.names ls b ks) _ (Fails_same e _ _ (term_kept c.args.graph.now c.node_of-in-Call.new.graph c.args.locals.now c.in_ok-first-in-Call.ensures.kept c.requires.locals b ks) c.in_err-second-in-Call.ensures.node))
+pub node_of-returns-in-Signed-clause-node : goal.node_of-returns-in-Signed-clause-node
+node_of-returns-in-Signed-clause-node t c =
+    rw (signed_is c.in-Signed.is c.get-in-Signed.ensures) (c.with_sign.ensures.node _ _ c.node_of-operand.ensures.node)
 
-pub node_of-returns-in_ok-intern-in-Call-clause-node : goal.node_of-returns-in_ok-intern-in-Call-clause-node
-node_of-returns-in_ok-intern-in-Call-clause-node t c =
-    let a = expr_of c.get-in-Call.result.now in
+pub node_of-returns-in-Power-clause-node : goal.node_of-returns-in-Power-clause-node
+node_of-returns-in-Power-clause-node t c =
+    rw (power_is c.in-Power.is c.get-in-Power.ensures refl) (c.raised.ensures.node _ c.node_of-base.ensures.node)
+
+pub node_of-returns-in_ok-first-in-Call-clause-node : goal.node_of-returns-in_ok-first-in-Call-clause-node
+node_of-returns-in_ok-first-in-Call-clause-node t c =
     let b = expr_of c.get-in-Call-2.result.now in
     let js = c.node_of-in-Call.new.exponents in
-    let ls = locals_in c.args.graph.now.terms c.args.locals.now in
-    rw (call_is c.in-Call.is c.get-in-Call.ensures c.get-in-Call-2.ensures)
-    (call_taken c.args.graph.now.names ls c.in-Call.function a b c.args.exponents.now js _ _ _ _ _ _ c.in_ok-first-in-Call.ensures.node
-    (sym (term_kept c.args.graph.now c.node_of-in-Call.new.graph c.args.locals.now c.in_ok-first-in-Call.ensures.kept c.requires.locals b js) ∙ c.in_ok-second-in-Call.ensures.node)
-    (c.in_ok-second-in-Call.ensures.kept.each c.in_ok-first-in-Call.first c.in_ok-first-in-Call.ensures.within)
-    c.calling.ensures
-    c.in_ok-intern-in-Call.ensures.says.term)
+    rw (call_is c.in-Call.is c.get-in-Call.ensures c.get-in-Call-2.ensures, c.in_ok-first-in-Call.ensures.node)
+    (Gives_same _ c.called.result _ _
+    (call_same _ _ (binary_called c.in-Call.function) _ _ (term_kept c.args.graph.now c.node_of-in-Call.new.graph c.args.locals.now c.in_ok-first-in-Call.ensures.kept c.requires.locals b js) (c.node_of-second.ensures.kept.each c.in_ok-first-in-Call.first c.in_ok-first-in-Call.ensures.within))
+    (c.called.ensures.node _ _ c.node_of-second.ensures.node))
 
-pub node_of-returns-in_err-inside-in-Diff-clause-node : goal.node_of-returns-in_err-inside-in-Diff-clause-node
-node_of-returns-in_err-inside-in-Diff-clause-node t c =
-    let p = err_from_is_err_and c.from_residual-in_err-inside-in-Diff.result c.from_residual-in_err-inside-in-Diff.ensures.1 in
-    let ls = locals_in c.args.graph.now.terms c.args.locals.now in
-    rw (p.1, p.2, diff_is c.in-Diff.is c.get-in-Diff.ensures) (Fails-bind _ (term_from c.args.graph.now.names ls (expr_of c.get-in-Diff.result.now) c.args.exponents.now) _ c.in_err-inside-in-Diff.ensures.node)
+pub node_of-returns-in-Diff-clause-node : goal.node_of-returns-in-Diff-clause-node
+node_of-returns-in-Diff-clause-node t c =
+    rw (diff_is c.in-Diff.is c.get-in-Diff.ensures) (c.gained.ensures.node _ _ c.node_of-inside.ensures.node)
 
-pub node_of-returns-in_ok-difference_node-in-Diff-clause-node : goal.node_of-returns-in_ok-difference_node-in-Diff-clause-node
-node_of-returns-in_ok-difference_node-in-Diff-clause-node t c =
-    let says = sym c.in_ok-difference_node-in-Diff.ensures.says.term in
-    rw (diff_is c.in-Diff.is c.get-in-Diff.ensures, c.in_ok-inside-in-Diff.ensures.node) (ap (λ x. Ok (x, c.node_of-in-Diff.new.exponents)) says)
-
-pub node_of-returns-in_ok-difference_node-in-Diff-clause-kept : goal.node_of-returns-in_ok-difference_node-in-Diff-clause-kept
-node_of-returns-in_ok-difference_node-in-Diff-clause-kept t c = keeps-trans _ _ _ c.in_ok-inside-in-Diff.ensures.kept c.in_ok-difference_node-in-Diff.ensures.kept
+pub node_of-returns-in-Diff-clause-kept : goal.node_of-returns-in-Diff-clause-kept
+node_of-returns-in-Diff-clause-kept t c = keeps-trans _ _ _ c.node_of-inside.ensures.kept c.gained.ensures.kept
 
 -- ---- sums and products
 pub further_node-node_of-requires : goal.further_node-node_of-requires

@@ -6,7 +6,7 @@ use Rattle.mp_values.specs.ModelOf.{each, parameters_given}
 use Rattle.mp_trees.specs.Parts.{after_these, parameter_given}
 use Rattle.mp_trees.proofs.Bound.{next_given, next_fails}
 use Rattle.mp_trees.proofs.Entries.{drop_at}
-use Rattle.mp_trees.proofs.file.parameters_of.Goals as goal
+use Rattle.mp_trees.proofs.file.find_parameters.Goals as goal
 
 pub returns-in_err-parameter : goal.returns-in_err-parameter
 returns-in_err-parameter c =

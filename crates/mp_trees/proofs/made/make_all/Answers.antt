@@ -6,7 +6,7 @@ use Rattle.mp_graph.proofs.Kept.{keeps-trans}
 use Rattle.mp_values.specs.From.{items_from}
 use Rattle.mp_trees.proofs.Entries.{drop_same}
 use Rattle.mp_trees.proofs.Rest.{rest_at}
-use Rattle.mp_trees.proofs.made.equations_of_file.Goals as goal
+use Rattle.mp_trees.proofs.made.make_all.Goals as goal
 
 pub returns-in_err-make_each-clause-equations : goal.returns-in_err-make_each-clause-equations
 returns-in_err-make_each-clause-equations c =

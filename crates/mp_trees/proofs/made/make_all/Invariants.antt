@@ -4,7 +4,7 @@ use Rattle.mp_file.specs.Shown.{statement_of}
 use Rattle.mp_graph.specs.Shared.{Keeps}
 use Rattle.mp_values.specs.From.{items_from}
 use Rattle.mp_trees.specs.Made.{IsRest}
-use Rattle.mp_trees.proofs.made.equations_of_file.Given as goal
+use Rattle.mp_trees.proofs.made.make_all.Given as goal
 
 abbrev pub invariant-turns : goal.invariant-turns
 invariant-turns l = record {
