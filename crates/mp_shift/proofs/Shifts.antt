@@ -91,11 +91,11 @@ max_all : (o l r m : ℕ) → max (max (max o l) r) m ≡ max o (max (max l r) m
 max_all o l r m = omega arith
 
 -- both sides of the equation that comes next
-pub raised_equation : (ts : List Term) (rs mid new : List Reach) (x : Sides) (rest every next : List Equation) → next ≡ equation_in ts x ∷ rest
-    → ((d : Direction) (v : ℕ) → max (reach_at rs d v) (equations_shift d v next) ≡ equations_shift d v every)
+pub raised_equation : (ts : List Term) (rs mid new : List Reach) (x : Sides) (rest next : List Equation) (before : By) → next ≡ equation_in ts x ∷ rest
+    → ((d : Direction) (v : ℕ) → max (reach_at rs d v) (equations_shift d v next) ≡ before d v)
     → RaisedBy rs mid (λ d v. term_shift d v (term_at ts x.left)) → RaisedBy mid new (λ d v. term_shift d v (term_at ts x.right))
-    → (d : Direction) (v : ℕ) → max (reach_at new d v) (equations_shift d v rest) ≡ equations_shift d v every
-raised_equation ts rs mid new x rest every next is so_far l r d v =
+    → (d : Direction) (v : ℕ) → max (reach_at new d v) (equations_shift d v rest) ≡ before d v
+raised_equation ts rs mid new x rest next before is so_far l r d v =
     ap (λ (n : ℕ). max n (equations_shift d v rest)) (r.each d v ∙ ap (λ (n : ℕ). max n (term_shift d v (term_at ts x.right))) (l.each d v))
     ∙ max_all (reach_at rs d v) (term_shift d v (term_at ts x.left)) (term_shift d v (term_at ts x.right)) (equations_shift d v rest)
     ∙ ap (λ (n : ℕ). max (reach_at rs d v) n) (sym (ap (equations_shift d v) is))

@@ -35,14 +35,34 @@ pub(crate) fn short_equations<'t>(
     ensures kept { Keeps graph.old graph.new }
 {
     let mut found = Vec::new(alloc);
+    add_short_equations(alloc, graph, equations, images, shorten, &mut found)?;
+    Ok(found)
+}
+
+// Adds them to a list that has none.
+fn add_short_equations<'t>(
+    alloc: Global,
+    graph: &mut Graph<'t>,
+    equations: &[Equation<'t>],
+    images: &mut [NodeId],
+    shorten: &Shorten<'_>,
+    found: &mut Vec<Equation<'t>>,
+) -> Result<(), NoMemory>
+    requires none { found.old.items ≡ [] }
+    requires within { AllByRecursion (IsWithin graph.old) (map sides_of equations.now) }
+    requires room { AllByRecursion (HasRoom (length images.old)) (map sides_of equations.now) }
+    ensures equations { OnOk result (map (equation_in graph.new.terms) (map sides_of found.new.items) ≡ map (short_equation (stand_by shorten.now.firsts.now)) (map (equation_in graph.old.terms) (map sides_of equations.now))) }
+    ensures within { OnOk result (AllByRecursion (IsWithin graph.new) (map sides_of found.new.items)) }
+    ensures kept { Keeps graph.old graph.new }
+{
     'turns: for equation in equations {
         let short = match short_sides(alloc, graph, equation, images, shorten) {
             Ok(short) => short,
             Err(NoMemory) => return Err(NoMemory),
         };
-        push(&mut found, &short)?;
+        push(found, &short)?;
     }
-    Ok(found)
+    Ok(())
 }
 
 // One of them.

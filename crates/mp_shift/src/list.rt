@@ -108,12 +108,22 @@ pub(crate) fn listed(
     ensures { IfOk result (λ v. map auxiliary_of v.items ≡ auxiliaries (lengths_of reaches.now) count) }
 {
     let mut found = Vec::new(alloc);
+    add_chains(&mut found, reaches, count)?;
+    Ok(found)
+}
+
+// Adds them to a list that has none.
+fn add_chains(found: &mut Vec<Auxiliary>, reaches: &[Reach], count: u32) -> Result<(), NoMemory>
+    requires none { found.old.items ≡ [] }
+    requires all { length reaches.now ≡ count }
+    ensures { OnOk result (map auxiliary_of found.new.items ≡ auxiliaries (lengths_of reaches.now) count) }
+{
     'turns: for place in 0..count {
         let reach = reaches[place as usize];
-        add_chain(&mut found, place, Direction::Lead, reach.lead)?;
-        add_chain(&mut found, place, Direction::Lag, reach.lag)?;
+        add_chain(found, place, Direction::Lead, reach.lead)?;
+        add_chain(found, place, Direction::Lag, reach.lag)?;
     }
-    Ok(found)
+    Ok(())
 }
 
 // Adds those of a variable that is shifted so far that way.

@@ -29,7 +29,11 @@ pub fn transform<'n>(
 {
     model.closed();
     model.graph().names().distinct(NameKind::Endogenous);
-    let firsts = firsts(alloc, &model)?;
+    let Ok(firsts) = firsts(alloc, &model) else {
+        // By a call, since what a model holds is dear to prove let go at a block's end.
+        drop(model);
+        return Err(NoMemory);
+    };
     let Parts {
         mut graph,
         parameters,
@@ -39,7 +43,11 @@ pub fn transform<'n>(
     let variables = names.count(NameKind::Endogenous);
     let sides = source.as_slice();
     let begins = firsts.as_slice();
-    let equations = all_equations(alloc, &mut graph, sides, auxiliaries, begins)?;
+    let Ok(equations) = all_equations(alloc, &mut graph, sides, auxiliaries, begins) else {
+        // By a call, as above.
+        drop(graph);
+        return Err(NoMemory);
+    };
     Ok(Model::with_source(graph, parameters, equations, source, variables))
 }
 

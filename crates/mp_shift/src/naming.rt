@@ -1,5 +1,5 @@
 // The auxiliary variables of a model, with their names.
-ghost use Rattle.std.specs.Prelude.{◌≡◌, ◌<◌, Some, None, [], length, map, take, slice_get, slice_index_or, IfOk, IfErr, OnOk};
+ghost use Rattle.std.specs.Prelude.{◌≡◌, ◌<◌, ◌++◌, Some, None, [], length, map, take, slice_get, slice_index_or, IfOk, IfErr, OnOk};
 ghost use Rattle.std.specs.List.{AllByRecursion};
 ghost use Rattle.mp_file.specs.Shown.{file_of, statement_of, named_of};
 ghost use Rattle.mp_model_data.specs.Shown.{model_data};
@@ -51,15 +51,34 @@ fn named(
 {
     let mut found = Auxiliaries::new(alloc);
     let mut name = Bytes::new(alloc);
+    match add_named(&mut found, &mut name, names, file, list) {
+        Ok(()) => Ok(found),
+        Err(fault) => Err(fault),
+    }
+}
+
+// Adds them, each with the name that is written to this buffer.
+fn add_named(
+    found: &mut Auxiliaries,
+    name: &mut Bytes,
+    names: &Names,
+    file: &File,
+    list: &[Auxiliary],
+) -> Result<(), ShiftFault>
+    requires { AllByRecursion (λ a. a.place < length names.now.endogenous) list.now }
+    ensures ok { OnOk result (found.new ≡ found.old ++ map (call names.now.endogenous) (map auxiliary_of list.now)) }
+    ensures none { OnOk result (naming_faults (file_of file.now) names.now (map auxiliary_of list.now) ≡ None) }
+    ensures err { IfErr result (Tells (naming_faults (file_of file.now) names.now (map auxiliary_of list.now))) }
+{
     'turns: for place in 0..list.len() {
         let auxiliary = auxiliary_at(list, place);
         name.clear();
-        put_name(&mut name, names, auxiliary)?;
+        put_name(name, names, auxiliary)?;
         let text = name.as_slice();
         test(names, file, auxiliary, text)?;
         found.add(auxiliary, text)?;
     }
-    Ok(found)
+    Ok(())
 }
 
 fn auxiliary_at(list: &[Auxiliary], place: usize) -> Auxiliary

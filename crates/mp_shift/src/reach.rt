@@ -1,15 +1,16 @@
 // The greatest leads and lags of a model's endogenous variables.
-ghost use Rattle.std.specs.Prelude.{◌≡◌, ◌<◌, max, length, replicate, slice_index, EachIndex, IfOk, OnOk};
+ghost use Rattle.std.specs.Prelude.{◌≡◌, ◌<◌, max, length, map, replicate, slice_index, EachIndex, IfOk, OnOk};
+ghost use Rattle.std.specs.List.{AllByRecursion};
 ghost use Rattle.mp_graph.specs.Shared.{term_at};
-ghost use Rattle.mp_model_data.specs.Shown.{model_data};
-ghost use Rattle.mp_solutions.specs.Auxiliaries.{lead, lag, distance, leaf_shift, term_shift};
+ghost use Rattle.mp_model_data.specs.Shown.{equation_in, model_data, sides_of, IsWithin};
+ghost use Rattle.mp_solutions.specs.Auxiliaries.{lead, lag, distance, leaf_shift, term_shift, equations_shift};
 ghost use Rattle.mp_graph.specs.Op.{IsLawfulLeaf, leaf_of};
 ghost use Rattle.mp_shift.specs.Reach.{RaisedBy, AreReaches, no_reach, node_shift, nodes_shift};
 
 use mp_base::NoMemory;
 use mp_expr::VarId;
 use mp_graph::{Graph, LeafOp, NodeId, NodeOp};
-use mp_model_data::Model;
+use mp_model_data::{Equation, Model};
 use mp_statements::NameKind;
 use std::alloc::Global;
 
@@ -28,11 +29,26 @@ pub(crate) fn reaches(alloc: Global, model: &Model) -> Result<Vec<Reach>, NoMemo
     let width = graph.names().count(NameKind::Endogenous);
     let mut found = nowhere(alloc, width)?;
     let equations = model.equations();
-    'turns: for equation in equations {
-        raise_by_side(alloc, graph, equation.left, &mut found)?;
-        raise_by_side(alloc, graph, equation.right, &mut found)?;
-    }
+    raise_by_equations(alloc, graph, equations, &mut found)?;
     Ok(found)
+}
+
+// Raises them to the shifts in these equations.
+fn raise_by_equations(
+    alloc: Global,
+    graph: &Graph,
+    equations: &[Equation],
+    found: &mut Vec<Reach>,
+) -> Result<(), NoMemory>
+    requires within { AllByRecursion (IsWithin graph.now) (map sides_of equations.now) }
+    requires room { length found.old.items ≡ length graph.now.names.endogenous }
+    ensures { OnOk result (RaisedBy found.old.items found.new.items (λ d v. equations_shift d v (map (equation_in graph.now.terms) (map sides_of equations.now)))) }
+{
+    'turns: for equation in equations {
+        raise_by_side(alloc, graph, equation.left, found)?;
+        raise_by_side(alloc, graph, equation.right, found)?;
+    }
+    Ok(())
 }
 
 // So many variables without a shift.

@@ -36,30 +36,30 @@ with_source-requires-clause-named c =
     ap (map (λ (p : m.Parameter). p.name)) c.into_parts-graph.ensures.parameters
     ∙ c.into_parts-graph.ensures.named
     ∙ ap (λ (g : Shared). g.names.parameters) (sym c.into_parts-graph.ensures.graph)
-    ∙ sym (ap (λ (ns : Names). ns.parameters) c.in_ok-equations.ensures.names)
+    ∙ sym (ap (λ (ns : Names). ns.parameters) c.in-Ok-all_equations.ensures.names)
 
 pub with_source-requires-clause-within : goal.with_source-requires-clause-within
-with_source-requires-clause-within c = c.in_ok-equations.ensures.within
+with_source-requires-clause-within c = c.in-Ok-all_equations.ensures.within
 
 pub with_source-requires-clause-source_within : goal.with_source-requires-clause-source_within
 with_source-requires-clause-source_within c =
-    subst (λ (l : List Equation). AllByRecursion (IsWithin c.all_equations.new.graph) (map sides_of l)) c.as_slice-sides.ensures.value c.in_ok-equations.ensures.kept_within
+    subst (λ (l : List Equation). AllByRecursion (IsWithin c.all_equations.new.graph) (map sides_of l)) c.as_slice-sides.ensures.value c.in-Ok-all_equations.ensures.kept_within
 
 pub with_source-requires-clause-few : goal.with_source-requires-clause-few
 with_source-requires-clause-few c =
-    few c.args.model c.args.auxiliaries.now c.requires c.into_parts-graph.result.graph c.all_equations.new.graph _ (map sides_of c.as_slice-sides.result.now) (map sides_of c.in_ok-equations.equations.items) c.count-variables.result c.as_slice-begins.result.now c.into_parts-graph.ensures.graph c.into_parts-graph.ensures.parameters (ap (map sides_of) c.as_slice-sides.ensures.value ∙ c.into_parts-graph.ensures.equations) (c.count-variables.ensures.count ∙ ap (λ (ns : Names). length ns.endogenous) c.names-names.ensures ∙ ap (λ (g : Shared). length g.names.endogenous) c.into_parts-graph.ensures.graph) c.in_ok-equations.ensures
+    few c.args.model c.args.auxiliaries.now c.requires c.into_parts-graph.result.graph c.all_equations.new.graph _ (map sides_of c.as_slice-sides.result.now) (map sides_of c.in-Ok-all_equations.equations.items) c.count-variables.result c.as_slice-begins.result.now c.into_parts-graph.ensures.graph c.into_parts-graph.ensures.parameters (ap (map sides_of) c.as_slice-sides.ensures.value ∙ c.into_parts-graph.ensures.equations) (c.count-variables.ensures.count ∙ ap (λ (ns : Names). length ns.endogenous) c.names-names.ensures ∙ ap (λ (g : Shared). length g.names.endogenous) c.into_parts-graph.ensures.graph) c.in-Ok-all_equations.ensures
 
 pub returns-clause-transformed : goal.returns-clause-transformed
 returns-clause-transformed c =
     let h = c.args.model in
-    let b = subst (λ (l : List Equation). AreBuilt c.into_parts-graph.result.graph c.all_equations.new.graph (map sides_of l) c.args.auxiliaries.now c.as_slice-begins.result.now (map sides_of c.in_ok-equations.equations.items)) c.as_slice-sides.ensures.value c.in_ok-equations.ensures in
-    let first = subst (λ (l : List First). AreFirst (model_data h) l) (sym c.as_slice-begins.ensures.value) c.in_ok-firsts.ensures in
+    let b = subst (λ (l : List Equation). AreBuilt c.into_parts-graph.result.graph c.all_equations.new.graph (map sides_of l) c.args.auxiliaries.now c.as_slice-begins.result.now (map sides_of c.in-Ok-all_equations.equations.items)) c.as_slice-sides.ensures.value c.in-Ok-all_equations.ensures in
+    let first = subst (λ (l : List First). AreFirst (model_data h) l) (sym c.as_slice-begins.ensures.value) c.in-Ok.ensures in
     ap (λ (k : Held). model_data k) c.with_source.ensures
     ∙ is_transformed h c.args.auxiliaries.now c.requires c.into_parts-graph.result.graph c.all_equations.new.graph _ _ _ c.count-variables.result c.as_slice-begins.result.now c.into_parts-graph.ensures.graph c.into_parts-graph.ensures.parameters c.into_parts-graph.ensures.equations (c.count-variables.ensures.count ∙ ap (λ (ns : Names). length ns.endogenous) c.names-names.ensures ∙ ap (λ (g : Shared). length g.names.endogenous) c.into_parts-graph.ensures.graph) b c.closed.ensures first
 
 pub returns-clause-source : goal.returns-clause-source
 returns-clause-source c =
     let h = c.args.model in
-    let b = subst (λ (l : List Equation). AreBuilt c.into_parts-graph.result.graph c.all_equations.new.graph (map sides_of l) c.args.auxiliaries.now c.as_slice-begins.result.now (map sides_of c.in_ok-equations.equations.items)) c.as_slice-sides.ensures.value c.in_ok-equations.ensures in
+    let b = subst (λ (l : List Equation). AreBuilt c.into_parts-graph.result.graph c.all_equations.new.graph (map sides_of l) c.args.auxiliaries.now c.as_slice-begins.result.now (map sides_of c.in-Ok-all_equations.equations.items)) c.as_slice-sides.ensures.value c.in-Ok-all_equations.ensures in
     ap (λ (k : Held). source_data k) c.with_source.ensures
     ∙ is_source h c.args.auxiliaries.now c.requires c.into_parts-graph.result.graph c.all_equations.new.graph _ _ _ c.count-variables.result c.as_slice-begins.result.now c.into_parts-graph.ensures.graph c.into_parts-graph.ensures.parameters c.into_parts-graph.ensures.equations (c.count-variables.ensures.count ∙ ap (λ (ns : Names). length ns.endogenous) c.names-names.ensures ∙ ap (λ (g : Shared). length g.names.endogenous) c.into_parts-graph.ensures.graph) b

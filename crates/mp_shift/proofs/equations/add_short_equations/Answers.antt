@@ -7,7 +7,7 @@ use Rattle.mp_shift.specs.Stand.{stand_by}
 use Rattle.mp_shift.specs.Equations.{HasRoom}
 use Rattle.mp_shift.proofs.Ahead.{each_map_here, map_here}
 use Rattle.mp_shift.proofs.Sides.{one_kept, within_more, equations_turn}
-use Rattle.mp_shift.proofs.equations.short_equations.Goals as goal
+use Rattle.mp_shift.proofs.equations.add_short_equations.Goals as goal
 
 pub turns-preserved : goal.turns-preserved
 turns-preserved c =

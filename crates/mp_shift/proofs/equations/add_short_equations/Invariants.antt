@@ -5,7 +5,7 @@ use Rattle.mp_model_data.specs.Shown.{sides_of, equation_in, IsWithin}
 use Rattle.mp_solutions.specs.Transformed.{short_equation}
 use Rattle.mp_shift.specs.Stand.{stand_by}
 use Rattle.mp_shift.specs.Equations.{HasRoom}
-use Rattle.mp_shift.proofs.equations.short_equations.Given as goal
+use Rattle.mp_shift.proofs.equations.add_short_equations.Given as goal
 
 abbrev pub invariant-turns : goal.invariant-turns
 invariant-turns l = record {

@@ -5,7 +5,7 @@ use Rattle.mp_solutions.specs.Auxiliaries.{auxiliary_name}
 use Rattle.mp_shift.specs.Called.{auxiliary_of, call}
 use Rattle.mp_shift.proofs.Ahead.{got_at, each_here, map_here}
 use Rattle.mp_shift.proofs.Faults.{named_turn, fault_turn, tells_turn}
-use Rattle.mp_shift.proofs.naming.named.Goals as goal
+use Rattle.mp_shift.proofs.naming.add_named.Goals as goal
 
 pub returns-in_err-test-clause-err : goal.returns-in_err-test-clause-err
 returns-in_err-test-clause-err c =
