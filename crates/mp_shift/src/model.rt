@@ -30,7 +30,7 @@ pub fn transform<'n>(
     model.closed();
     model.graph().names().distinct(NameKind::Endogenous);
     let Ok(firsts) = firsts(alloc, &model) else {
-        // By a call, since what a model holds is dear to prove let go at a block's end.
+        // By a call, so that no way out of this function lets go of a model itself.
         drop(model);
         return Err(NoMemory);
     };
