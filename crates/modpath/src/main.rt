@@ -3,7 +3,7 @@
 
 ghost use Rattle.std.specs.Prelude.{◌≡◌, ◌<◌};
 
-use mp_base::{Outcome, Steps};
+use mp_base::Outcome;
 use mp_outside::{RealFiles, RealSink};
 use std::marker::Brand;
 use std::process::ExitCode;
@@ -35,7 +35,7 @@ fn outcome_of<L: Ledger>(rt: HostRuntime, blank: Blank) -> Outcome
     };
     let mut files = RealFiles::new(rt);
     let mut out = RealSink::new(rt.stdout());
-    let mut steps = Steps::<L>::start(blank);
+    let mut steps = mp_steps::start::<L>(blank);
     mp_run::run(
         rt.alloc(),
         &words,

@@ -25,7 +25,6 @@ mod tell;
 
 use crate::job::Job;
 use anyhow::{Result, bail};
-use mp_base::Steps;
 use std::env;
 use std::marker::Brand;
 use std::sync::ledger::{Blank, Ledger};
@@ -39,7 +38,7 @@ fn jobs<L: Ledger>(rt: &HostRuntime, blank: Blank) -> Result<()>
     requires parts { blank.parts ≡ L.parts }
     requires some { 0 < blank.parts }
 {
-    let mut steps = Steps::<L>::start(blank);
+    let mut steps = mp_steps::start::<L>(blank);
     let mut words = env::args(rt)?;
     let _program = words.next();
     if words.len() == 0 {

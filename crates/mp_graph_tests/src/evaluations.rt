@@ -382,7 +382,7 @@ fn rows<L: Ledger>(rt: &impl Abort, alloc: Global, blank: Blank)
     requires parts { blank.parts ≡ L.parts }
     requires some { 0 < blank.parts }
 {
-    let mut steps = Steps::<L>::start(blank);
+    let mut steps = mp_steps::start::<L>(blank);
     for row in ROWS {
         points(rt, alloc, row, &mut steps);
         intervals(rt, alloc, row, &mut steps);
@@ -437,7 +437,7 @@ fn chains<L: Ledger>(rt: &impl Abort, alloc: Global, blank: Blank)
     requires parts { blank.parts ≡ L.parts }
     requires some { 0 < blank.parts }
 {
-    let mut steps = Steps::<L>::start(blank);
+    let mut steps = mp_steps::start::<L>(blank);
     let answer = squares(rt, alloc, 31, &mut steps).expect(rt, "cannot be evaluated");
     assert!(rt; answer.fault.is_none() && answer.values.len() == 1);
     assert!(rt; answer.values[0].units() == ONE);

@@ -3,7 +3,7 @@ ghost use Rattle.std.specs.Prelude.{◌≡◌, ◌*◌, ◌<◌, ◌≤◌};
 ghost use Rattle.mp_band.specs.Blocks.{count_of, IsInShape};
 
 use mp_band::Band;
-use mp_base::{NoMemory, Steps};
+use mp_base::NoMemory;
 use mp_fix::Fix;
 use std::alloc::Global;
 use std::marker::Brand;
@@ -78,7 +78,7 @@ fn twice<L: Ledger>(rt: &impl Abort, alloc: Global, blank: Blank) -> Result<(), 
     requires parts { blank.parts ≡ L.parts }
     requires some { 0 < blank.parts }
 {
-    let mut steps = Steps::<L>::start(blank);
+    let mut steps = mp_steps::start::<L>(blank);
     let mut band = Band::with_shape(alloc, 2_000, 20)?;
     fill_chain(rt, &mut band);
     assert!(rt; band.eliminate(fix(rt, 1_000), &mut steps).is_ok());

@@ -272,7 +272,7 @@ fn counted<L: Ledger>(rt: &impl Abort, blank: Blank)
     requires parts { blank.parts ≡ L.parts }
     requires some { 0 < blank.parts }
 {
-    let mut steps = Steps::<L>::start(blank);
+    let mut steps = mp_steps::start::<L>(blank);
     points(rt, &mut steps);
     powers(rt, &mut steps);
     choices(rt, &mut steps);

@@ -255,7 +255,7 @@ fn all<L: Ledger>(rt: &impl Abort, alloc: Global, blank: Blank) -> Result<(), No
     requires parts { blank.parts ≡ L.parts }
     requires some { 0 < blank.parts }
 {
-    let mut steps = Steps::<L>::start(blank);
+    let mut steps = mp_steps::start::<L>(blank);
     for case in CASES {
         dense(rt, alloc, case, &mut steps)?;
         banded(rt, alloc, case, &mut steps)?;

@@ -1,7 +1,7 @@
 // Whole runs over files and sinks in memory.
 ghost use Rattle.std.specs.Prelude.{◌≡◌, ◌<◌};
 
-use mp_base::{NoMemory, Outcome, Steps, WordList};
+use mp_base::{NoMemory, Outcome, WordList};
 use mp_outside::{Calls, Listing, MemFiles, MemSink};
 use mp_run::run;
 use std::alloc::Global;
@@ -107,7 +107,7 @@ fn ran<L: Ledger>(
 {
     let words = words_of(alloc, row.words)?;
     let mut files = files_of(alloc, row)?;
-    let mut steps = Steps::<L>::start(blank);
+    let mut steps = mp_steps::start::<L>(blank);
     Ok(run(
         alloc,
         &words,
