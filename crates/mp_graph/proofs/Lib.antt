@@ -1,3 +1,5 @@
+mod AllRows
+mod Heights
 pub mod Interned
 pub mod Kept
 pub mod Nodes

@@ -1,8 +1,10 @@
 //! Expressions as nodes of one graph, each once, and the passes over them.
 #![tactic(auto)]
 
+mod count;
 pub mod fold;
 pub mod graph;
+mod height;
 pub mod images;
 pub mod kids;
 pub mod names;
@@ -10,6 +12,7 @@ pub mod node_id;
 pub mod op;
 pub mod own;
 pub mod rewrite;
+pub mod sizes;
 pub mod tree;
 
 pub use fold::{Fold, folded, row_at};
@@ -19,3 +22,4 @@ pub use node_id::NodeId;
 pub use op::{BinaryOp, LeafOp, NodeOp};
 pub use own::own_laws;
 pub use rewrite::{Rewrite, rewritten};
+pub use sizes::{all_counts, all_heights};

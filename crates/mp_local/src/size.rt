@@ -5,9 +5,8 @@ ghost use Rattle.mp_model_data.specs.Shown.{sides_of, model_data};
 ghost use Rattle.mp_local.specs.Sizes.{greatest, greatest_height, operations, side_rows};
 
 use mp_base::NoMemory;
-use mp_graph::row_at;
+use mp_graph::{all_counts, all_heights, row_at};
 use mp_model_data::{Equation, Model};
-use mp_sizes::{all_counts, all_heights};
 use std::alloc::Global;
 
 // Where a sum of counts stops.

@@ -1,6 +1,6 @@
 use Rattle.std.proofs.Common.{arith}
-use Rattle.mp_sizes.proofs.Each.{zip_count, zip_rows, zip_more}
-use Rattle.mp_sizes.proofs.all.each_row.Goals as goal
+use Rattle.mp_graph.proofs.AllRows.{zip_count, zip_rows, zip_more}
+use Rattle.mp_graph.proofs.sizes.each_row.Goals as goal
 
 pub row-requires-clause-table : goal.row-requires-clause-table
 row-requires-clause-table g c =

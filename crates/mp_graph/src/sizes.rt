@@ -4,9 +4,11 @@ ghost use Rattle.std.specs.List.{AllZip};
 ghost use Rattle.mp_expr.specs.Size.{count_of, height_of};
 
 use crate::count::Counts;
+use crate::fold::Fold;
+use crate::graph::Graph;
 use crate::height::Heights;
+use crate::node_id::NodeId;
 use mp_base::NoMemory;
-use mp_graph::{Fold, Graph, NodeId};
 use std::alloc::Global;
 use std::convert::Infallible;
 

@@ -1,9 +1,9 @@
 use Rattle.std.proofs.Common.{◌≡◌, ◌∙◌, ◌≤◌, ◌-◌, ◌^◌, min, length, arith}
 use Rattle.mp_semantics.specs.Term.{Term}
 use Rattle.mp_expr.specs.Size.{height_of}
-use Rattle.mp_sizes.proofs.Each.{zip_length, zip_map, map_same}
-use Rattle.mp_sizes.proofs.Low.{heights_fit}
-use Rattle.mp_sizes.proofs.all.all_heights.Goals as goal
+use Rattle.mp_graph.proofs.AllRows.{zip_length, zip_map, map_same}
+use Rattle.mp_graph.proofs.Heights.{heights_fit}
+use Rattle.mp_graph.proofs.sizes.all_heights.Goals as goal
 
 pub returns : goal.returns
 returns c =

@@ -5,12 +5,15 @@ ghost use Rattle.mp_graph.specs.Images.{HasRows};
 ghost use Rattle.mp_graph.specs.Part.{IsPart};
 ghost use Rattle.mp_graph.specs.Shared.{term_at};
 
-use mp_graph::{Fold, Graph, NodeId, NodeOp, row_at};
+use crate::fold::{Fold, row_at};
+use crate::graph::Graph;
+use crate::node_id::NodeId;
+use crate::op::NodeOp;
 use std::convert::Infallible;
 
-/// Heights, up to 2^64 - 1.
+// Heights, up to 2^64 - 1.
 #[derive(Drop)]
-pub struct Heights;
+pub(crate) struct Heights;
 
 impl Fold for Heights {
     type Row = u64;

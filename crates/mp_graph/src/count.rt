@@ -5,15 +5,18 @@ ghost use Rattle.mp_graph.specs.Images.{HasRows};
 ghost use Rattle.mp_graph.specs.Part.{IsPart};
 ghost use Rattle.mp_graph.specs.Shared.{term_at};
 
-use mp_graph::{Fold, Graph, NodeId, NodeOp, row_at};
+use crate::fold::{Fold, row_at};
+use crate::graph::Graph;
+use crate::node_id::NodeId;
+use crate::op::NodeOp;
 use std::convert::Infallible;
 
 // Where a count stops.
 const COUNT_LIMIT: u128 = 10000000000000000000000000000000000000;
 
-/// Counts of operations, up to 10^37.
+// Counts of operations, up to 10^37.
 #[derive(Drop)]
-pub struct Counts;
+pub(crate) struct Counts;
 
 impl Fold for Counts {
     type Row = u128;
