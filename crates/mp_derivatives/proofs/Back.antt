@@ -40,7 +40,7 @@ module _ (room : ℕ) (e : Expr) (is : InDerivative room e) where
 
   level_tokens : tokens (text_of (expr_pieces e)) ≡ Ok (placed 0 (expr_pieces e))
   level_tokens =
-      tokens-text_of (expr_pieces e) 0 (subst Apart (append-nil (expr_pieces e)) ((derivative room).apart e [] (in_form room e is) tt (λ r q. refl)))
+      tokens-text_of (expr_pieces e) 0 (subst Apart (append-nil (expr_pieces e)) ((derivative room).laws.apart e [] (in_form room e is) tt (λ r q. refl)))
 
   -- where it has so many tokens
   level_reads : length (placed 0 (expr_pieces e)) ≡ room → ReadsDerivative level_back.0 level_back.1

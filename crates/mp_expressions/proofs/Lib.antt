@@ -5,3 +5,4 @@ pub mod Atoms
 pub mod Bares
 pub mod FormLaws
 pub mod Signs
+pub mod Levels

@@ -24,7 +24,7 @@ ended (choose f g) k r = inl (ended f (told_choose f g k).0 r)
 ended (opt f) k r = refl
 ended (many f) k r = refl
 ended (via to f) k r = ((ending f).1, ended f (told_via to f k) r, refl)
-ended (part ls ms w p) k r = p.ends r
+ended (part ls ms w p) k r = p.laws.ends r
 
 abbrev cons : {X : Type 0} → X → Read (List X) → Read (List X)
 cons x s = s >>= λ xs. Ok (x ∷ xs.0, xs.1)
@@ -133,7 +133,7 @@ mends (via {X} {Y} to f) k ts left e = by_read (mends f (told_via to f k) ts lef
     by_read p (Err q) is e =
         let same : q ≡ left = cc in
         let m = p (is ∙ ap (λ z. Err z) same) in (m.0, m.1, to m.2, m.3, λ r. (m.2, m.4 r, refl))
-mends (part ls ms w p) k ts left e = p.mends ts left e
+mends (part ls ms w p) k ts left e = p.laws.mends ts left e
 
 -- a list on which a reading stops at m does not begin anything with m
 refused : {X : Type 0} (f : Format X) → told f ≡ true → (front : List Tok) (m : Tok) (y : Read X) → ((ns : List Tok) → read f (front ++ (m ∷ ns)) ≡ leaving y (m ∷ ns)) → Begins f (front ++ (m ∷ [])) → ⊥

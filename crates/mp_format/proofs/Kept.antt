@@ -149,4 +149,4 @@ kept (many f) k =
     let t = told_many f k in
     keeps_many (first f) (read f) (kept f t.0) (λ ts x e. shorter f ts x.1 x.0 t.1 (sound f ts x e))
 kept (via to f) k = keeps_bind (read f) (λ x ts. Ok (to x, ts)) (kept f (told_via to f k)) (λ x. keeps_pure (to x))
-kept (part ls ms w p) k = p.keeps
+kept (part ls ms w p) k = p.laws.keeps

@@ -71,7 +71,7 @@ starts (many f) ts rest xs r = by_list xs ts r (λ us mid x. starts f us mid x)
         by_start (inr e) (inl h) = inl (ap (meets (first f)) e.1 ∙ h)
         by_start (inr e) (inr d) = inr (refl, e.1 ∙ d.1)
 starts (via to f) ts rest y r = starts f ts rest r.0 r.1
-starts (part ls ms w p) ts rest x r = inl (p.begins ts rest x r)
+starts (part ls ms w p) ts rest x r = inl (p.laws.begins ts rest x r)
 
 pub told_both : {X Y : Type 0} (f : Format X) (g : Format Y) → told (both f g) ≡ true → (told f ≡ true) × (told g ≡ true) × (disjoint (goes_on f) (first g) ≡ true)
 unfolding told
@@ -152,7 +152,7 @@ local (many f) ts rest xs r = by_list xs ts r (λ us mid x. local f us mid x)
         let b = by_list xs r.0 r.2 one in
         (a.0 ++ b.0, a.1 ∙ ap (λ l. a.0 ++ l) b.1 ∙ sym (append_assoc a.0 b.0 rest), λ q. (b.0 ++ q, subst (λ l. Reads f l x (b.0 ++ q)) (sym (append_assoc a.0 b.0 q)) (a.2 (b.0 ++ q)), b.2 q))
 local (via to f) ts rest y r = let a = local f ts rest r.0 r.1 in (a.0, a.1, λ q. (r.0, a.2 q, r.2))
-local (part ls ms w p) ts rest x r = p.local ts rest x r
+local (part ls ms w p) ts rest x r = p.laws.local ts rest x r
 
 -- it has a token where it is not empty
 pub shorter : {X : Type 0} (f : Format X) (ts rest : List Tok) (x : X) → empty f ≡ false → Reads f ts x rest → length rest < length ts
@@ -253,7 +253,7 @@ complete (many f) ts rest xs k r h =
     by_start us mid (inr d) = absurd (clash (empty f) d.0 (told_many f k).1)
 complete (via to f) ts rest y k r h =
     ap (λ s. s >>= λ x. Ok (to x.0, x.1)) (complete f ts rest r.0 (told_via to f k) r.1 h) ∙ ap (λ y. Ok (y, rest)) r.2
-complete (part ls ms w p) ts rest x k r h = p.complete ts rest x r h
+complete (part ls ms w p) ts rest x k r h = p.laws.complete ts rest x r h
 
 many_sound : {X : Type 0} (R : Reading X) (ls : List Look) (step : List Tok → Read X) → ((ts : List Tok) (x : X × List Tok) → step ts ≡ Ok x → R ts x.0 x.1) → (n : ℕ) (ts : List Tok) (y : List X × List Tok) → more_at n (begin ls) step ts ≡ Ok y → ManyReads R ts y.0 y.1
 unfolding more_at
@@ -301,7 +301,7 @@ sound (many f) ts y e =
 sound (via to f) ts y e =
     let a = bound (read f ts) _ y e in
     carried (λ z rest. (x : _) × Reads f ts x rest × (to x ≡ z)) (to a.0.0, a.0.1) y a.2 (a.0.0, sound f ts a.0 a.1, refl)
-sound (part ls ms w p) ts y e = p.sound ts y e
+sound (part ls ms w p) ts y e = p.laws.sound ts y e
 
 -- a whole list reads as one value at most
 pub unique : {X : Type 0} (f : Format X) (ts : List Tok) (x y : X) → told f ≡ true → Reads f ts x [] → Reads f ts y [] → x ≡ y

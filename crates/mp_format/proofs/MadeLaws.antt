@@ -23,4 +23,4 @@ made (many {X} f) Q ts rest xs r all = by_list ts xs r all (made f Q)
         let k = by_list mid xs s h.1 one in
         ((h.0, k.0), k.1)
 made (via to f) Q ts rest y (x, r, e) all = let h = made f Q ts rest x r all in ((x, e, h.0), h.1)
-made (part ls ms w p) Q ts rest x r all = p.made Q ts rest x r all
+made (part ls ms w p) Q ts rest x r all = p.laws.made Q ts rest x r all

@@ -41,4 +41,4 @@ moved (many {X} f) ts rest us xs r a = by_list xs ts us r a (moved f)
         let q = by_list xs r.0 p.1 r.2 p.3 one in (p.0 ∷ q.0, q.1, (p.1, p.2, q.2), q.3, (p.4, q.4))
 moved (via to f) ts rest us y r a =
     let p = moved f ts rest us r.0 r.1 a in (to p.0, p.1, (p.0, p.2, refl), p.3, (r.0, p.0, r.2, refl, p.4))
-moved (part ls ms w p) ts rest us x r a = p.moved ts rest us x r a
+moved (part ls ms w p) ts rest us x r a = p.laws.moved ts rest us x r a

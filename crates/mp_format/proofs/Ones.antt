@@ -12,7 +12,8 @@ use Rattle.mp_tokens.specs.declared.terminal.Terminal.{Terminal}
 use Rattle.mp_tokens.specs.declared.terminal.Terminal.TheVariants as t
 use Rattle.mp_format.specs.Format.{token_of}
 use Rattle.mp_format.specs.Spelling.{varies}
-use Rattle.mp_format.proofs.Numbers.{NoMore, run-before, number-before, number-le, is_zero}
+use Rattle.mp_tokens.proofs.NumberSizes.{number-le}
+use Rattle.mp_format.proofs.Numbers.{NoMore, run-before, number-before, is_zero}
 use Rattle.mp_format.specs.Pieces.{is_numeric, run_of, AfterName, AfterNumber, AfterSlash, AfterOrder, stops, clear, IsOne, IsWord, IsLiteral, AreDigits, IsText}
 
 pub pick : {X : Type 0} (t : Bool) (x y : X) → t ≡ true → cond t x y ≡ x

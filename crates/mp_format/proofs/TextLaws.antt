@@ -57,7 +57,7 @@ written (many f) xs s is r = by_list xs is (λ x. written f x (spaced_many f s).
         let at : words (pieces f x ++ rest) ++ r ≡ words (pieces f x) ++ (words rest ++ r) = ap (λ l. l ++ r) (words-append (pieces f x) rest) ∙ append_assoc (words (pieces f x)) (words rest) r in
         (words rest ++ r, subst (λ l. Reads f l (value f x) (words rest ++ r)) (sym at) (one x is.0 (words rest ++ r)), by_list xs is.1 one)
 written (via to f) x s is r = (value f x, written f x s is r, refl)
-written (part ls ms w p) x s is r = p.written x is r
+written (part ls ms w p) x s is r = p.laws.written x is r
 
 -- what does not open so, stops so, if it is there
 abbrev pub Opened : (e : Bool) → List Piece → List Piece → Run → Type 0
@@ -130,7 +130,7 @@ opened (many f) xs ps r s is e = by_list xs is (λ x qs. opened f x qs r (spaced
         by_left (inr a) (inl b) = inl (ap (λ l. stops r (text_of ((l ++ all_pieces (pieces f) xs) ++ ps))) a.1 ∙ b)
         by_left (inr a) (inr b) = inr (refl, ap (λ l. l ++ all_pieces (pieces f) xs) a.1 ∙ b.1)
 opened (via to f) x ps r s is e = opened f x ps r s is e
-opened (part ls ms w p) x ps r s is e = inl (p.opened x ps r is e)
+opened (part ls ms w p) x ps r s is e = inl (p.laws.opened x ps r is e)
 
 blanks_apart : (w : List ℕ) (ps : List Piece) → list_all is_blank w ≡ true → Apart ps → Apart (blanks w ++ ps)
 blanks_apart [] ps all a = a
@@ -192,7 +192,7 @@ apart (many f) xs ps s is a c = by_list xs is (λ x qs. apart f x qs (spaced_man
             let more = next ys is.1 in
             λ r e. ap (λ l. stops r (text_of l)) (append_assoc (pieces f y) (all_pieces (pieces f) ys) ps) ∙ seam f f y (all_pieces (pieces f) ys ++ ps) (spaced_many f s).0 is.0 (spaced_many f s).1 (λ q n h. more q h) r e
 apart (via to f) x ps s is a c = apart f x ps s is a c
-apart (part ls ms w p) x ps s is a c = p.apart x ps is a c
+apart (part ls ms w p) x ps s is a c = p.laws.apart x ps is a c
 
 text_of-append : (ps qs : List Piece) → text_of (ps ++ qs) ≡ text_of ps ++ text_of qs
 text_of-append [] qs = refl

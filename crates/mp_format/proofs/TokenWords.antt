@@ -12,7 +12,8 @@ use Rattle.mp_tokens.specs.Tokens.{Tok, Fault, Begun, Token, Comment, Wrong, Lon
 use Rattle.mp_format.specs.Pieces.{IsLiteral, AreDigits}
 use Rattle.mp_format.specs.Format.{Every}
 use Rattle.mp_format.proofs.TokenForms.{Carries, IsToken}
-use Rattle.mp_format.proofs.Numbers.{number-within, number-le}
+use Rattle.mp_tokens.proofs.NumberSizes.{number-le}
+use Rattle.mp_format.proofs.Numbers.{number-within}
 
 -- if a token begins, its bytes are what its kind says
 abbrev Good : Begun → Type 0

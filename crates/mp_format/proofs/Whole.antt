@@ -6,9 +6,10 @@ use Rattle.mp_tokens.specs.Tokens.{Tok}
 use Rattle.mp_tokens.specs.Terminals.{terminal_of}
 use Rattle.mp_format.specs.Reading.{is}
 use Rattle.mp_format.proofs.ReadLaws.{is-same}
-use Rattle.mp_format.specs.Format.{Look, Of, Word, sees, sees_any, meets, same_look, one_of, covers, Part, Format, Reads, empty, first, goes_on, told, ending, read, Alike, Made}
+use Rattle.mp_format.specs.Format.{Look, Of, Word, sees, sees_any, meets, same_look, one_of, covers, Format, empty, first, goes_on, told, read, Alike, Made}
 use Rattle.mp_format.specs.Pieces.{Script}
 use Rattle.mp_format.specs.Spelling.{Writing}
+use Rattle.mp_format.specs.Whole.{WholeLaws, whole}
 use Rattle.mp_format.proofs.Looks.{both_true, clash, denied}
 use Rattle.mp_format.proofs.Laws.{Begun, starts, local, complete, sound}
 use Rattle.mp_format.proofs.Kept.{kept}
@@ -53,47 +54,40 @@ covers-meets : (ls ms : List Look) (ts : List Tok) → covers ls ms ≡ true →
 covers-meets ls ms [] h s = cc
 covers-meets ls ms (u ∷ us) h s = covers-sees ls ms u h s
 
--- a format as a part of others, with these tokens to begin it and those to go on
-pub whole : {T X : Type 0} (ls ms : List Look) (w : Script T X) (f : Format X) → Writing f w → told f ≡ true → empty f ≡ false → covers (first f) ls ≡ true → covers (goes_on f) ms ≡ true → Part ls ms w
-whole {T} {X} ls ms w f v k e a b =
+-- a format as a part of others has the laws, with these tokens to begin it and those to go on
+pub whole_laws : {T X : Type 0} (ls ms : List Look) (w : Script T X) (f : Format X) (v : Writing f w) → told f ≡ true → empty f ≡ false → covers (first f) ls ≡ true → covers (goes_on f) ms ≡ true → WholeLaws ls ms w f v.Fits
+whole_laws {T} {X} ls ms w f v k e a b =
     record {
-      Reads = Reads f;
-      read = read f;
       sound = sound f;
       complete = λ ts rest x r h. complete f ts rest x k r (denied _ λ s. clash _ (covers-meets (goes_on f) ms rest b s) h);
       begins = λ ts rest x r. by_start ts rest (starts f ts rest x r);
       local = local f;
       keeps = kept f k;
-      ending = (ending f).0;
-      value = (ending f).1;
       ends = ended f k;
       mends = mends f k;
-      Alike = Alike f;
       moved = moved f;
-      Fits = v.Fits;
       written = v.written;
       opened = v.opened;
-      apart = v.apart;
-      Made = Made f;
       made = made f;
+      apart = v.apart;
     }
   where
     by_start : (ts rest : List Tok) → Begun f ts rest → meets ls ts ≡ true
     by_start ts rest (inl s) = covers-meets (first f) ls ts a s
     by_start ts rest (inr d) = absurd (clash (empty f) d.0 e)
 
-pub whole-read : {T X : Type 0} (ls ms : List Look) (w : Script T X) (f : Format X) (v : Writing f w) (k : told f ≡ true) (e : empty f ≡ false) (a : covers (first f) ls ≡ true) (b : covers (goes_on f) ms ≡ true) (ts : List Tok) → (whole ls ms w f v k e a b).read ts ≡ read f ts
+pub whole-read : {T X : Type 0} (ls ms : List Look) (w : Script T X) (f : Format X) (Fits : T → Type 0) (laws : WholeLaws ls ms w f Fits) (ts : List Tok) → (whole ls ms w f Fits laws).read ts ≡ read f ts
 unfolding whole
-whole-read ls ms w f v k e a b ts = refl
+whole-read ls ms w f Fits laws ts = refl
 
-pub whole-fits : {T X : Type 0} (ls ms : List Look) (w : Script T X) (f : Format X) (v : Writing f w) (k : told f ≡ true) (e : empty f ≡ false) (a : covers (first f) ls ≡ true) (b : covers (goes_on f) ms ≡ true) → (whole ls ms w f v k e a b).Fits ≡ v.Fits
+pub whole-fits : {T X : Type 0} (ls ms : List Look) (w : Script T X) (f : Format X) (Fits : T → Type 0) (laws : WholeLaws ls ms w f Fits) → (whole ls ms w f Fits laws).Fits ≡ Fits
 unfolding whole
-whole-fits ls ms w f v k e a b = refl
+whole-fits ls ms w f Fits laws = refl
 
-pub whole-alike : {T X : Type 0} (ls ms : List Look) (w : Script T X) (f : Format X) (v : Writing f w) (k : told f ≡ true) (e : empty f ≡ false) (a : covers (first f) ls ≡ true) (b : covers (goes_on f) ms ≡ true) → (whole ls ms w f v k e a b).Alike ≡ Alike f
+pub whole-alike : {T X : Type 0} (ls ms : List Look) (w : Script T X) (f : Format X) (Fits : T → Type 0) (laws : WholeLaws ls ms w f Fits) → (whole ls ms w f Fits laws).Alike ≡ Alike f
 unfolding whole
-whole-alike ls ms w f v k e a b = refl
+whole-alike ls ms w f Fits laws = refl
 
-pub whole-made : {T X : Type 0} (ls ms : List Look) (w : Script T X) (f : Format X) (v : Writing f w) (k : told f ≡ true) (e : empty f ≡ false) (a : covers (first f) ls ≡ true) (b : covers (goes_on f) ms ≡ true) → (whole ls ms w f v k e a b).Made ≡ Made f
+pub whole-made : {T X : Type 0} (ls ms : List Look) (w : Script T X) (f : Format X) (Fits : T → Type 0) (laws : WholeLaws ls ms w f Fits) → (whole ls ms w f Fits laws).Made ≡ Made f
 unfolding whole
-whole-made ls ms w f v k e a b = refl
+whole-made ls ms w f Fits laws = refl

@@ -92,27 +92,31 @@ abbrev pub Every : {X : Type 0} → (X → Type 0) → List X → Type 0
 Every P [] = Unit {0}
 Every P (x ∷ xs) = P x × Every P xs
 
--- a part that is read elsewhere, as an expression: its first tokens, those with which it would go on, and its laws
-pub record Part (first more : List Look) {T X : Type 0} (w : Script T X) : Type 1 where
-  pub Reads : List Tok → X → List Tok → Type 0
-  pub read : List Tok → Read X
+-- the laws of a part that reads so, ends so, is the same but for places so, is written as its script writes the trees that fit, and is made of tokens so
+pub record PartLaws (first more : List Look) {T X : Type 0} (w : Script T X) (Reads : Reading X) (read : List Tok → Read X) (ending : List Tok) (value : X) (Alike : X → X → Type 0) (Fits : T → Type 0) (Made : (Tok → Type 0) → X → Type 0) : Type 1 where
   pub sound : (ts : List Tok) (x : X × List Tok) → read ts ≡ Ok x → Reads ts x.0 x.1
   pub complete : (ts rest : List Tok) (x : X) → Reads ts x rest → meets more rest ≡ false → read ts ≡ Ok (x, rest)
   pub begins : (ts rest : List Tok) (x : X) → Reads ts x rest → meets first ts ≡ true
   pub local : (ts rest : List Tok) (x : X) → Reads ts x rest → (front : List Tok) × (ts ≡ front ++ rest) × ((r : List Tok) → Reads (front ++ r) x r)
   pub keeps : Keeps read
-  pub ending : List Tok
-  pub value : X
   pub ends : (r : List Tok) → Reads (ending ++ r) value r
   pub mends : (ts left : List Tok) → read ts ≡ Err left → Mends Reads ts left
-  pub Alike : X → X → Type 0
   pub moved : Moves Reads Alike
-  pub Fits : T → Type 0
   pub written : (x : T) → Fits x → (r : List Tok) → Reads (words (w.pieces x) ++ r) (w.value x) r
   pub opened : (x : T) (ps : List Piece) (r : Run) → Fits x → w.opens r ≡ false → stops r (text_of (w.pieces x ++ ps)) ≡ true
-  pub Made : (Tok → Type 0) → X → Type 0
   pub made : (Q : Tok → Type 0) (ts rest : List Tok) (x : X) → Reads ts x rest → Every Q ts → Made Q x × Every Q rest
   pub apart : (x : T) (ps : List Piece) → Fits x → Apart ps → Clears w.closes (text_of ps) → Apart (w.pieces x ++ ps)
+
+-- a part that is read elsewhere, as an expression: what it means, and that it has the laws
+pub record Part (first more : List Look) {T X : Type 0} (w : Script T X) : Type 1 where
+  pub Reads : List Tok → X → List Tok → Type 0
+  pub read : List Tok → Read X
+  pub ending : List Tok
+  pub value : X
+  pub Alike : X → X → Type 0
+  pub Fits : T → Type 0
+  pub Made : (Tok → Type 0) → X → Type 0
+  pub laws : PartLaws first more w Reads read ending value Alike Fits Made
 
 abbrev pub token : TokenKind → List ℕ → Tok
 token kind bytes = record { kind = kind; bytes = bytes; at = 0 }

@@ -3,3 +3,4 @@ pub mod Pieces
 pub mod Format
 pub mod Notation
 pub mod Spelling
+pub mod Whole

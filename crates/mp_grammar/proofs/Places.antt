@@ -17,7 +17,6 @@ use Rattle.mp_grammar.specs.Productions.{decl, further_decl, declared, declares,
 use Rattle.mp_grammar.specs.Levels.{expression, flat, deeper}
 use Rattle.mp_grammar.specs.Statements.{bare_equation, bare_item, bare_statement}
 use Rattle.mp_format.proofs.Whole.{whole-alike}
-use Rattle.mp_expressions.proofs.Atoms.{flat_writing, sum_writing}
 use Rattle.mp_format.proofs.Bares.{Bares, paired, itself, unplaced, tok_bares, both_bares, choose_bares, opt_bares, many_bares, via_bares, front_bares, back_bares, stands_bares}
 use Rattle.mp_grammar.proofs.Lists.{if_any_bares}
 use Rattle.mp_grammar.proofs.Tags.{tags_bares}
@@ -27,9 +26,9 @@ use Rattle.mp_expressions.proofs.Bares.{flat_bares, atom_bares, sum_bares}
 pub expr_bares : (room : ℕ) → Bares (expr (expression room)) bare
 unfolding Alike expression flat deeper
 expr_bares zero x y h =
-    sum_bares flat_atom flat_bares x y (subst (λ (A : Expr → Expr → Type 0). A x y) (whole-alike _ _ _ (sum flat_atom) flat_writing _ _ _ _) h)
+    sum_bares flat_atom flat_bares x y (subst (λ (A : Expr → Expr → Type 0). A x y) (whole-alike _ _ _ (sum flat_atom) _ _) h)
 expr_bares (suc room) x y h =
-    sum_bares (atom (expression room)) (atom_bares (expression room) (expr_bares room)) x y (subst (λ (A : Expr → Expr → Type 0). A x y) (whole-alike _ _ _ (sum (atom (expression room))) (sum_writing (expression room)) _ _ _ _) h)
+    sum_bares (atom (expression room)) (atom_bares (expression room) (expr_bares room)) x y (subst (λ (A : Expr → Expr → Type 0). A x y) (whole-alike _ _ _ (sum (atom (expression room))) _ _) h)
 
 name_bares : Bares name bare_name
 name_bares = stands_bares _ _ _ bare_name (λ u. refl)

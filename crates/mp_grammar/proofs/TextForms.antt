@@ -20,7 +20,6 @@ use Rattle.mp_format.proofs.Whole.{whole-made}
 use Rattle.mp_format.proofs.MadeLaws.{made}
 use Rattle.mp_format.proofs.Looks.{both_true}
 use Rattle.std.specs.List.{list_all}
-use Rattle.mp_expressions.proofs.Atoms.{flat_writing, sum_writing}
 use Rattle.mp_format.proofs.TokenWords.{tokens-words}
 use Rattle.mp_format.proofs.TokenForms.{IsToken, name_is}
 use Rattle.mp_grammar.proofs.Lists.{each_form, if_any_form}
@@ -31,9 +30,9 @@ use Rattle.mp_expressions.proofs.FormLaws.{flat_form, atom_form, sum_form, flat_
 pub expression_form : (room : ℕ) (x : Expr) → Made (expr (expression room)) IsToken x → InForm room x
 unfolding Made expression flat deeper InForm
 expression_form zero x m =
-    sum_form flat_atom Flat flat_alone flat_form x (subst (λ (M : (Tok → Type 0) → Expr → Type 0). M IsToken x) (whole-made _ _ _ (sum flat_atom) flat_writing _ _ _ _) m)
+    sum_form flat_atom Flat flat_alone flat_form x (subst (λ (M : (Tok → Type 0) → Expr → Type 0). M IsToken x) (whole-made _ _ _ (sum flat_atom) _ _) m)
 expression_form (suc room) x m =
-    sum_form (atom (expression room)) (Deep (InForm room)) (deep_alone (InForm room)) (atom_form (expression room) (InForm room) (expression_form room)) x (subst (λ (M : (Tok → Type 0) → Expr → Type 0). M IsToken x) (whole-made _ _ _ (sum (atom (expression room))) (sum_writing (expression room)) _ _ _ _) m)
+    sum_form (atom (expression room)) (Deep (InForm room)) (deep_alone (InForm room)) (atom_form (expression room) (InForm room) (expression_form room)) x (subst (λ (M : (Tok → Type 0) → Expr → Type 0). M IsToken x) (whole-made _ _ _ (sum (atom (expression room))) _ _) m)
 
 pub name_form : (n : Named) → Made name IsToken n → IsNamed n
 unfolding Made

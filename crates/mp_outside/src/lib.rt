@@ -2,7 +2,7 @@
 #![tactic(auto)]
 
 ghost use Rattle.std.specs.Prelude.{◌≡◌, ◌≤◌, ◌<◌};
-ghost use Rattle.mp_outside.specs.Outside.{Outside, Held, Later, FetchSays, FetchCounts, PutSays, Written};
+ghost use Rattle.mp_outside.specs.Outside.{Outside, Held, Later, StaysFull, CountsStayFull, FetchSays, PutSays, Written};
 
 use mp_base::Bytes;
 
@@ -22,8 +22,8 @@ pub trait Files {
     /// Puts the bytes under this name into `into`, at most `limit` of them; after another answer than `Got` it is empty.
     fn fetch(&mut self, name: &[u8], limit: u64, into: &mut Bytes) -> Fetched
         ensures later { Later (outside self.old) (outside self.new) }
-        ensures says { FetchSays (outside self.old) (outside self.new) name.now limit into.new result }
-        ensures counts { FetchCounts (outside self.old) (outside self.new) into.new result };
+        ensures stays { CountsStayFull (outside self.old) (outside self.new) }
+        ensures says { FetchSays (outside self.old) (outside self.new) name.now limit into.new result };
 
     /// How many calls have failed. The count stays at its greatest value.
     fn faults(&self) -> u64
@@ -35,9 +35,10 @@ pub trait Sink {
     /// The bytes taken, where it tells them, and the count of faults.
     ghost held: { Self → Held };
 
-    /// Takes the first bytes of the piece, or none at a fault.
+    /// Takes the first bytes of the piece. To take none of some is a fault, also where the answer is `Took`.
     fn put(&mut self, bytes: &[u8]) -> Put
         ensures later { (held self.old).faults ≤ (held self.new).faults }
+        ensures stays { StaysFull (held self.old).faults (held self.new).faults }
         ensures says { PutSays (held self.old) (held self.new) bytes.now result };
 
     /// How many calls have failed. The count stays at its greatest value.
@@ -53,8 +54,8 @@ pub fn write_whole<S: Sink>(sink: &mut S, bytes: &[u8]) -> Result<(), WriteFault
     let mut at: usize = 0;
     'pieces: while at < bytes.len() {
         match sink.put(&bytes[at..]) {
+            Put::Took(0) | Put::WriteFault => return Err(WriteFault),
             Put::Took(n) => at += n,
-            Put::WriteFault => return Err(WriteFault),
         }
     }
     Ok(())

@@ -1,7 +1,7 @@
 // Files and streams of the system: readers and writers of std, and counts of what fails.
 ghost use Rattle.std.specs.Prelude.{◌≡◌, ◌↔◌, ◌≤◌, [], None, List, ℕ, MatchResult};
 ghost use Rattle.std.specs.IoError.{error_kind};
-ghost use Rattle.mp_outside.specs.Outside.{Later, FetchSays, FetchCounts, PutSays};
+ghost use Rattle.mp_outside.specs.Outside.{Later, StaysFull, CountsStayFull, FetchSays, FetchCounts, PutSays, PutCounts};
 ghost use Rattle.mp_outside.specs.Real.{seen, held_by, writer_of, refusal, TakesNothing, Reads, PutTakes};
 
 use crate::{Fetched, Files, Put, Sink};
@@ -55,6 +55,7 @@ impl RealFiles {
         into: &mut Bytes,
     ) -> Fetched
         ensures later { Later (seen self.old) (seen self.new) }
+        ensures stays { CountsStayFull (seen self.old) (seen self.new) }
         ensures says { (name : List ℕ) → FetchSays (seen self.old) (seen self.new) name limit into.new result }
         ensures counts { FetchCounts (seen self.old) (seen self.new) into.new result }
         ensures reads { MatchResult opened (λ r. Reads (R.remaining r) limit into.new result) (λ e. result ≡ refusal (error_kind e)) }
@@ -72,6 +73,7 @@ impl RealFiles {
         requires none { self.old.took ≡ 0 }
         ensures answer { result ≡ answer }
         ensures later { Later (seen self.old) (seen self.new) }
+        ensures stays { CountsStayFull (seen self.old) (seen self.new) }
         ensures counts { FetchCounts (seen self.old) (seen self.new) [] result }
     {
         match answer {
@@ -87,6 +89,7 @@ impl RealFiles {
         requires empty { into.old ≡ [] }
         requires begun { self.old.took ≡ 0 }
         ensures later { Later (seen self.old) (seen self.new) }
+        ensures stays { CountsStayFull (seen self.old) (seen self.new) }
         ensures says { (name : List ℕ) → FetchSays (seen self.old) (seen self.new) name limit into.new result }
         ensures counts { FetchCounts (seen self.old) (seen self.new) into.new result }
         ensures reads { Reads (R.remaining reader.old) limit into.new result }
@@ -118,7 +121,12 @@ impl RealFiles {
 impl Files for RealFiles {
     ghost outside = { seen };
 
-    fn fetch(&mut self, name: &[u8], limit: u64, into: &mut Bytes) -> Fetched {
+    fn fetch(&mut self, name: &[u8], limit: u64, into: &mut Bytes) -> Fetched
+        ensures later { Later (seen self.old) (seen self.new) }
+        ensures stays { CountsStayFull (seen self.old) (seen self.new) }
+        ensures says { FetchSays (seen self.old) (seen self.new) name.now limit into.new result }
+        ensures counts { FetchCounts (seen self.old) (seen self.new) into.new result }
+    {
         let Ok(name) = std::str::from_utf8(name) else {
             into.clear();
             self.took = 0;
@@ -155,7 +163,9 @@ impl<W: Write> Sink for RealSink<W> {
 
     fn put(&mut self, bytes: &[u8]) -> Put
         ensures later { (held_by self.old).faults ≤ (held_by self.new).faults }
+        ensures stays { StaysFull (held_by self.old).faults (held_by self.new).faults }
         ensures says { PutSays (held_by self.old) (held_by self.new) bytes.now result }
+        ensures counts { PutCounts (held_by self.old) (held_by self.new) bytes.now result }
         ensures takes { PutTakes (W.contents (writer_of self.old)) (W.contents (writer_of self.new)) bytes.now result }
     {
         match self.writer.write(bytes) {

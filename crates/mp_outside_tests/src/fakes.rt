@@ -1,4 +1,5 @@
-// A reader and a writer that go on in short steps and fail once.
+// A reader and a writer that go on in short steps and fail once, and a sink that stops taking.
+use mp_outside::{Put, Sink};
 use std::io;
 use std::io::{ErrorKind, Read, Write};
 
@@ -68,5 +69,31 @@ impl Write for ShortWriter {
 
     fn flush(&mut self) -> io::Result<()> {
         Ok(())
+    }
+}
+
+// Takes one byte of a piece while some are wanted, and then none, which it counts without answering a fault.
+#[derive(Drop)]
+pub struct StallingSink {
+    pub wanted: usize,
+    pub faults: u64,
+}
+
+impl Sink for StallingSink {
+    ghost use Rattle.std.specs.Prelude.{None};
+
+    ghost held = { λ s. record { taken = None; faults = s.faults } };
+
+    fn put(&mut self, bytes: &[u8]) -> Put {
+        let n = self.wanted.min(bytes.len()).min(1);
+        self.wanted -= n;
+        if n == 0 {
+            self.faults = self.faults.saturating_add(1);
+        }
+        Put::Took(n)
+    }
+
+    fn faults(&self) -> u64 {
+        self.faults
     }
 }

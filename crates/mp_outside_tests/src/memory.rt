@@ -1,5 +1,6 @@
 // Files and sinks in memory.
 
+use crate::fakes::StallingSink;
 use mp_base::{Bytes, NoMemory};
 use mp_outside::{Calls, Fetched, Files, Listing, MemFiles, MemSink, Put, Sink};
 use std::alloc::Global;
@@ -47,4 +48,29 @@ fn a_sink_takes_what_it_has_room_for(rt: HostRuntime) -> Result<(), Fail> {
     assert_eq!(rt; sink.taken(), b"abcd".as_slice());
     assert_eq!(rt; sink.faults(), 1);
     Ok(())
+}
+
+// How many bytes a sink takes one by one before it takes none, its count of faults, whether all was taken, and the count
+// after that: a sink that takes nothing of a piece has failed.
+const STALLS: &[(usize, u64, bool, u64)] = &[
+    (6, 0, true, 0),
+    (5, 0, false, 1),
+    (0, 0, false, 1),
+    (0, 4, false, 5),
+    (0, u64::MAX, false, u64::MAX),
+];
+
+#[test]
+fn a_sink_that_takes_nothing_has_failed(rt: HostRuntime) {
+    for &(wanted, before, whole, after) in STALLS {
+        let mut sink = StallingSink {
+            wanted,
+            faults: before,
+        };
+        assert_eq!(rt;
+            mp_outside::write_whole(&mut sink, b"var x;").is_ok(),
+            whole
+        );
+        assert_eq!(rt; sink.faults, after);
+    }
 }

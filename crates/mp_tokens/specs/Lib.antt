@@ -2,3 +2,4 @@ pub mod Literals
 pub mod Slices
 pub mod Terminals
 pub mod Tokens
+pub mod Forms

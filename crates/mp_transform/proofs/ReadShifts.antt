@@ -20,7 +20,6 @@ use Rattle.mp_format.proofs.Whole.{whole-made}
 use Rattle.mp_format.proofs.MadeLaws.{made}
 use Rattle.mp_expressions.specs.Productions.{Whole, expr}
 use Rattle.mp_expressions.specs.Expressions.{shift, literal, flat_atom, pair, fenced, shift_part, closed, inside, atom, raised, power, factor, times, product, plus, sum}
-use Rattle.mp_expressions.proofs.Atoms.{flat_writing, sum_writing}
 use Rattle.mp_grammar.specs.Productions.{declared, declares, assigns, local, equation, item, model, notes, statement, statements}
 use Rattle.mp_grammar.specs.Levels.{expression, flat, deeper}
 use Rattle.mp_grammar.specs.Grammar.{ReadsFile}
@@ -233,9 +232,9 @@ module _ (limit : ℕ) where
   expr_keeps : (room : ℕ) → Keeps (expr (expression room)) (Near room)
   unfolding Made Keeps expression flat deeper
   expr_keeps zero x m =
-      sum_keeps 0 flat_atom flat_keeps x (subst (λ (M : (Tok → Type 0) → Expr → Type 0). M (IsWithin limit) x) (whole-made _ _ _ (sum flat_atom) flat_writing _ _ _ _) m)
+      sum_keeps 0 flat_atom flat_keeps x (subst (λ (M : (Tok → Type 0) → Expr → Type 0). M (IsWithin limit) x) (whole-made _ _ _ (sum flat_atom) _ _) m)
   expr_keeps (suc room) x m =
-      sum_keeps (suc room) (atom (expression room)) (atom_keeps room (expression room) (expr_keeps room)) x (subst (λ (M : (Tok → Type 0) → Expr → Type 0). M (IsWithin limit) x) (whole-made _ _ _ (sum (atom (expression room))) (sum_writing (expression room)) _ _ _ _) m)
+      sum_keeps (suc room) (atom (expression room)) (atom_keeps room (expression room) (expr_keeps room)) x (subst (λ (M : (Tok → Type 0) → Expr → Type 0). M (IsWithin limit) x) (whole-made _ _ _ (sum (atom (expression room))) _ _) m)
 
   -- ---- statements
 

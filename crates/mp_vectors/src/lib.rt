@@ -139,48 +139,6 @@ pub const TRANSFORMED: &[Row] = &[
         out: "var x AUX_LEAD_x_1 AUX_LEAD_x_2 AUX_LEAD_x_3 AUX_LEAD_x_4 AUX_LEAD_x_5 AUX_LEAD_x_6 AUX_LEAD_x_7 AUX_LEAD_x_8 AUX_LEAD_x_9 AUX_LEAD_x_10 AUX_LEAD_x_11 AUX_LEAD_x_12 AUX_LEAD_x_13 AUX_LEAD_x_14 AUX_LEAD_x_15 AUX_LEAD_x_16 AUX_LEAD_x_17 AUX_LEAD_x_18 AUX_LEAD_x_19 AUX_LEAD_x_20 AUX_LEAD_x_21 AUX_LEAD_x_22 AUX_LEAD_x_23;\nmodel;\nx = AUX_LEAD_x_23(+1);\nAUX_LEAD_x_1 = x(+1);\nAUX_LEAD_x_2 = AUX_LEAD_x_1(+1);\nAUX_LEAD_x_3 = AUX_LEAD_x_2(+1);\nAUX_LEAD_x_4 = AUX_LEAD_x_3(+1);\nAUX_LEAD_x_5 = AUX_LEAD_x_4(+1);\nAUX_LEAD_x_6 = AUX_LEAD_x_5(+1);\nAUX_LEAD_x_7 = AUX_LEAD_x_6(+1);\nAUX_LEAD_x_8 = AUX_LEAD_x_7(+1);\nAUX_LEAD_x_9 = AUX_LEAD_x_8(+1);\nAUX_LEAD_x_10 = AUX_LEAD_x_9(+1);\nAUX_LEAD_x_11 = AUX_LEAD_x_10(+1);\nAUX_LEAD_x_12 = AUX_LEAD_x_11(+1);\nAUX_LEAD_x_13 = AUX_LEAD_x_12(+1);\nAUX_LEAD_x_14 = AUX_LEAD_x_13(+1);\nAUX_LEAD_x_15 = AUX_LEAD_x_14(+1);\nAUX_LEAD_x_16 = AUX_LEAD_x_15(+1);\nAUX_LEAD_x_17 = AUX_LEAD_x_16(+1);\nAUX_LEAD_x_18 = AUX_LEAD_x_17(+1);\nAUX_LEAD_x_19 = AUX_LEAD_x_18(+1);\nAUX_LEAD_x_20 = AUX_LEAD_x_19(+1);\nAUX_LEAD_x_21 = AUX_LEAD_x_20(+1);\nAUX_LEAD_x_22 = AUX_LEAD_x_21(+1);\nAUX_LEAD_x_23 = AUX_LEAD_x_22(+1);\nend;\n",
         err: "",
     },
-    Row {
-        text: "var x; model; x = x(-2); end;",
-        status: 0,
-        out: "var x AUX_LAG_x_1;\nmodel;\nx = AUX_LAG_x_1(-1);\nAUX_LAG_x_1 = x(-1);\nend;\n",
-        err: "",
-    },
-    Row {
-        text: "var x; model; x(+2) = x; end;",
-        status: 0,
-        out: "var x AUX_LEAD_x_1;\nmodel;\nAUX_LEAD_x_1(+1) = x;\nAUX_LEAD_x_1 = x(+1);\nend;\n",
-        err: "",
-    },
-    Row {
-        text: "var x; model; # g = diff(x(-1)); g = 0; end;",
-        status: 0,
-        out: "var x AUX_LAG_x_1;\nmodel;\nx(-1)-AUX_LAG_x_1(-1) = 0;\nAUX_LAG_x_1 = x(-1);\nend;\n",
-        err: "",
-    },
-    Row {
-        text: "var x y; varexo e; model; x = x(-3) + y(+3)*e(-7); [name='b'] y = x(+2); end;",
-        status: 0,
-        out: "var x y AUX_LEAD_x_1 AUX_LAG_x_1 AUX_LAG_x_2 AUX_LEAD_y_1 AUX_LEAD_y_2;\nvarexo e;\nmodel;\nx = AUX_LAG_x_2(-1)+AUX_LEAD_y_2(+1)*e(-7);\n[name='b'] y = AUX_LEAD_x_1(+1);\nAUX_LEAD_x_1 = x(+1);\nAUX_LAG_x_1 = x(-1);\nAUX_LAG_x_2 = AUX_LAG_x_1(-1);\nAUX_LEAD_y_1 = y(+1);\nAUX_LEAD_y_2 = AUX_LEAD_y_1(+1);\nend;\n",
-        err: "",
-    },
-    Row {
-        text: "var x; model; x = 1+diff(diff(x)); end;",
-        status: 0,
-        out: "var x AUX_LAG_x_1;\nmodel;\nx = 1+(x-x(-1)-(x(-1)-AUX_LAG_x_1(-1)));\nAUX_LAG_x_1 = x(-1);\nend;\n",
-        err: "",
-    },
-    Row {
-        text: "var x; model; # AUX_LEAD_x_1 = x(+9); x = x(+2); end;",
-        status: 0,
-        out: "var x AUX_LEAD_x_1;\nmodel;\nx = AUX_LEAD_x_1(+1);\nAUX_LEAD_x_1 = x(+1);\nend;\n",
-        err: "",
-    },
-    Row {
-        text: "var x; model; x = x(+24); end;",
-        status: 0,
-        out: "var x AUX_LEAD_x_1 AUX_LEAD_x_2 AUX_LEAD_x_3 AUX_LEAD_x_4 AUX_LEAD_x_5 AUX_LEAD_x_6 AUX_LEAD_x_7 AUX_LEAD_x_8 AUX_LEAD_x_9 AUX_LEAD_x_10 AUX_LEAD_x_11 AUX_LEAD_x_12 AUX_LEAD_x_13 AUX_LEAD_x_14 AUX_LEAD_x_15 AUX_LEAD_x_16 AUX_LEAD_x_17 AUX_LEAD_x_18 AUX_LEAD_x_19 AUX_LEAD_x_20 AUX_LEAD_x_21 AUX_LEAD_x_22 AUX_LEAD_x_23;\nmodel;\nx = AUX_LEAD_x_23(+1);\nAUX_LEAD_x_1 = x(+1);\nAUX_LEAD_x_2 = AUX_LEAD_x_1(+1);\nAUX_LEAD_x_3 = AUX_LEAD_x_2(+1);\nAUX_LEAD_x_4 = AUX_LEAD_x_3(+1);\nAUX_LEAD_x_5 = AUX_LEAD_x_4(+1);\nAUX_LEAD_x_6 = AUX_LEAD_x_5(+1);\nAUX_LEAD_x_7 = AUX_LEAD_x_6(+1);\nAUX_LEAD_x_8 = AUX_LEAD_x_7(+1);\nAUX_LEAD_x_9 = AUX_LEAD_x_8(+1);\nAUX_LEAD_x_10 = AUX_LEAD_x_9(+1);\nAUX_LEAD_x_11 = AUX_LEAD_x_10(+1);\nAUX_LEAD_x_12 = AUX_LEAD_x_11(+1);\nAUX_LEAD_x_13 = AUX_LEAD_x_12(+1);\nAUX_LEAD_x_14 = AUX_LEAD_x_13(+1);\nAUX_LEAD_x_15 = AUX_LEAD_x_14(+1);\nAUX_LEAD_x_16 = AUX_LEAD_x_15(+1);\nAUX_LEAD_x_17 = AUX_LEAD_x_16(+1);\nAUX_LEAD_x_18 = AUX_LEAD_x_17(+1);\nAUX_LEAD_x_19 = AUX_LEAD_x_18(+1);\nAUX_LEAD_x_20 = AUX_LEAD_x_19(+1);\nAUX_LEAD_x_21 = AUX_LEAD_x_20(+1);\nAUX_LEAD_x_22 = AUX_LEAD_x_21(+1);\nAUX_LEAD_x_23 = AUX_LEAD_x_22(+1);\nend;\n",
-        err: "",
-    },
 ];
 
 /// What `transform m` refuses.
@@ -220,6 +178,49 @@ pub const REFUSED: &[Row] = &[
         status: 5,
         out: "",
         err: "modpath: 5 Text kind=Token at=21 token=\n",
+    },
+    Row {
+        text: "var x; end;",
+        status: 5,
+        out: "",
+        err: "modpath: 5 Text kind=Token at=7 token=end\n",
+    },
+    Row {
+        text: "var x; model x = 1; end;",
+        status: 5,
+        out: "",
+        err: "modpath: 5 Text kind=Token at=13 token=x\n",
+    },
+    Row {
+        text: "var x; model; x = 1; ) end;",
+        status: 5,
+        out: "",
+        err: "modpath: 5 Text kind=Token at=21 token=)\n",
+    },
+    // At most 500 parentheses are open at once, and those of calls count.
+    Row {
+        text: "var x; model; (((((((((((((((((((((((((((((((((((((((((((((((((((((((((((((((((((((((((((((((((((((((((((((((((((((((((((((((((((((((((((((((((((((((((((((((((((((((((((((((((((((((((((((((((((((((((((((((((((((((((((((((((((((((((((((((((((((((((((((((((((((((((((((((((((((((((((((((((((((((((((((((((((((((((((((((((((((((((((((((((((((((((((((((((((((((((((((((((((((((((((((((((((((((((((((((((((((((((((((((((((((((((((((((((((((((((((((((((((((((((((((((((((((((((((((((((((((((((((((((((((((((((((((((((((((",
+        status: 5,
+        out: "",
+        err: "modpath: 5 Text kind=Token at=514 token=(\n",
+    },
+    Row {
+        text: "var x; model; ((((((((((((((((((((((((((((((((((((((((((((((((((((((((((((((((((((((((((((((((((((((((((((((((((((((((((((((((((((((((((((((((((((((((((((((((((((((((((((((((((((((((((((((((((((((((((((((((((((((((((((((((((((((((((((((((((((((((((((((((((((((((((((((((((((((((((((((((((((((((((((((((((((((((((((((((((((((((((((((((((((((((((((((((((((((((((((((((((((((((((((((((((((((((((((((((((((((((((((((((((((((((((((((((((((((((((((((((((((((((((((((((((((((((((((((((((((((((((((((((((((((((((((((((((((min",
+        status: 5,
+        out: "",
+        err: "modpath: 5 Text kind=Token at=514 token=min\n",
+    },
+    Row {
+        text: "var x; model; ((((((((((((((((((((((((((((((((((((((((((((((((((((((((((((((((((((((((((((((((((((((((((((((((((((((((((((((((((((((((((((((((((((((((((((((((((((((((((((((((((((((((((((((((((((((((((((((((((((((((((((((((((((((((((((((((((((((((((((((((((((((((((((((((((((((((((((((((((((((((((((((((((((((((((((((((((((((((((((((((((((((((((((((((((((((((((((((((((((((((((((((((((((((((((((((((((((((((((((((((((((((((((((((((((((((((((((((((((((((((((((((((((((((((((((((((((((((((((((((((((((((((((((((((((((max",
+        status: 5,
+        out: "",
+        err: "modpath: 5 Text kind=Token at=514 token=max\n",
+    },
+    Row {
+        text: "var x; model; ((((((((((((((((((((((((((((((((((((((((((((((((((((((((((((((((((((((((((((((((((((((((((((((((((((((((((((((((((((((((((((((((((((((((((((((((((((((((((((((((((((((((((((((((((((((((((((((((((((((((((((((((((((((((((((((((((((((((((((((((((((((((((((((((((((((((((((((((((((((((((((((((((((((((((((((((((((((((((((((((((((((((((((((((((((((((((((((((((((((((((((((((((((((((((((((((((((((((((((((((((((((((((((((((((((((((((((((((((((((((((((((((((((((((((((((((((((((((((((((((((((((((((((((((((((diff",
+        status: 5,
+        out: "",
+        err: "modpath: 5 Text kind=Token at=514 token=diff\n",
     },
     Row {
         text: "var x; model; x = x^x; end;",
@@ -502,30 +503,6 @@ pub const REFUSED: &[Row] = &[
         status: 7,
         out: "",
         err: "modpath: 7 Data kind=TooDeep at=0 first=501 second=500\n",
-    },
-    Row {
-        text: "var x; model; x = x(+25); end;",
-        status: 7,
-        out: "",
-        err: "modpath: 7 Data kind=ShiftFar at=18 first=25 second=24\n",
-    },
-    Row {
-        text: "var x AUX_LEAD_x_1; model; x(+2) = x; AUX_LEAD_x_1 = 0; end;",
-        status: 6,
-        out: "",
-        err: "modpath: 6 Declared kind=NameTaken name=AUX_LEAD_x_1 at=6\n",
-    },
-    Row {
-        text: "var x; parameters AUX_LAG_x_2; AUX_LAG_x_2 = 1; model; x(-3) = x(+2); end;",
-        status: 6,
-        out: "",
-        err: "modpath: 6 Declared kind=NameTaken name=AUX_LAG_x_2 at=18\n",
-    },
-    Row {
-        text: "var a xxxxxxxxxxxxxxxxxxxxxxxxxxxxxxxxxxxxxxxxxxxxxxxxxxxxxxxxxxxxxxxxxxxxxxxxxxxxxxxxxxxxxxxxxxxxxxxxxxxxxxxxxxxxxxxxxxxxxx; model; a = xxxxxxxxxxxxxxxxxxxxxxxxxxxxxxxxxxxxxxxxxxxxxxxxxxxxxxxxxxxxxxxxxxxxxxxxxxxxxxxxxxxxxxxxxxxxxxxxxxxxxxxxxxxxxxxxxxxxxx(+2); xxxxxxxxxxxxxxxxxxxxxxxxxxxxxxxxxxxxxxxxxxxxxxxxxxxxxxxxxxxxxxxxxxxxxxxxxxxxxxxxxxxxxxxxxxxxxxxxxxxxxxxxxxxxxxxxxxxxxx = 0; end;",
-        status: 6,
-        out: "",
-        err: "modpath: 6 Declared kind=NameLong name=AUX_LEAD_xxxxxxxxxxxxxxxxxxxxxxxxxxxxxxxxxxxxxxxxxxxxxxxxxxxxxxxxxxxxxxxxxxxxxxxxxxxxxxxxxxxxxxxxxxxxxxxxxxxxxxxxxxxxxxxxxxxxxx_ at=6\n",
     },
     Row {
         text: "var x; model; x = x(+25); end;",

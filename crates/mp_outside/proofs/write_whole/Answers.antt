@@ -16,7 +16,6 @@ pieces-preserved g c =
     let taken = (g.S.Sink.held c.args.sink.now).taken in
     record {
       within = omega (arith, c.in-Took.ensures.says.0, ap length whole, length-drop c.pieces.at bytes);
-      taken = c.in-Took.ensures.says.2 ∙ ap (λ l. gained (g.S.Sink.held c.pieces.sink).taken (take c.in-Took.n l)) whole ∙ ap (λ o. gained o (take c.in-Took.n rest)) c.pieces.invariant.taken ∙ gained-more taken bytes c.pieces.at c.in-Took.n;
-      counts = c.in-Took.ensures.says.3 ∙ c.pieces.invariant.counts;
+      taken = c.in-Took.ensures.says.1 ∙ ap (λ l. gained (g.S.Sink.held c.pieces.sink).taken (take c.in-Took.n l)) whole ∙ ap (λ o. gained o (take c.in-Took.n rest)) c.pieces.invariant.taken ∙ gained-more taken bytes c.pieces.at c.in-Took.n;
       later = omega (arith, c.pieces.invariant.later, c.in-Took.ensures.later);
     }
