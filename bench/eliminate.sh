@@ -1,9 +1,9 @@
 #!/bin/sh
-# Times elimination of large bands, and one product and one quotient of points, by the built program.
-# Usage: bench/eliminate.sh        (after `rt run -- twice` in crates/mp_bench, which builds the program)
+# Times elimination of large bands by the built program.
+# Usage: bench/eliminate.sh        (after `rt run -- squares` in crates/mp_bench, which builds the program)
 top=$(dirname -- "$(readlink -f -- "$0")")/..
 program=$top/crates/mp_bench/out/mp_bench
-[ -x "$program" ] || { echo "no program at $program: run rt run -- twice in crates/mp_bench first" >&2; exit 1; }
+[ -x "$program" ] || { echo "no program at $program: run rt run -- squares in crates/mp_bench first" >&2; exit 1; }
 
 # the best of five runs, in seconds of the clock and of the processor, and the greatest memory in MB
 measure() {
@@ -29,6 +29,3 @@ measure "full band, 500 periods of 22 rows" full 500 22
 measure "full band, 1,000 periods of 22 rows" full 1000 22
 measure "four to six entries a row, 500 periods of 22 rows" near 500 22
 measure "four to six entries a row, 1,000 periods of 22 rows" near 1000 22
-measure "two systems in one band, 2,000 periods of 20 rows" twice
-measure "100 million products of points, one after the other" products 100000000
-measure "100 million quotients of points, one after the other" quotients 100000000

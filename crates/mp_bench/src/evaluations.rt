@@ -1,160 +1,120 @@
-// The graphs of a text.
+// Graphs without variables, whose evaluation is measured.
 
-use crate::frames::{next_frame, next_names};
-use crate::nodes::next_roots;
-use crate::numbers::Numbers;
-use crate::tell::Tell;
 use anyhow::{Result, bail};
 use mp_base::Steps;
-use mp_eval::{Kind, Scratch};
-use mp_fix::{Fix, Iv};
-use mp_graph::{Graph, NodeId};
-use mp_trial::added::Refused;
-use mp_trial::evaluated::{Answer, answered, evaluated};
+use mp_eval::Kind;
+use mp_fix::Fix;
+use mp_graph::{BinaryOp, Graph, LeafOp, NodeId, NodeOp};
+use mp_names::Names;
+use mp_trial::added::{Refused, added, chain};
+use mp_trial::evaluated::answered;
 use mp_trial::frame::Frame;
 use mp_trial::ready::Ready;
 use std::alloc::Global;
 use std::sync::ledger::Ledger;
 
-/// A graph with its roots, the values that leaves read, and when and how often it is evaluated.
-#[derive(Clone, Copy)]
-struct Case<'c> {
-    graph: &'c Graph<'static>,
-    roots: &'c [NodeId],
-    frame: &'c Frame,
-    span: Span,
-}
-
-/// The horizon, and the first and the last of the periods that are evaluated, each once and so many times more.
-#[derive(Clone, Copy)]
-struct Span {
-    periods: u32,
-    first: u32,
-    last: u32,
-    more: u32,
-}
-
-/// Evaluates each graph of a text: how many there are, and for each 0 for points or 1 for intervals, and the case.
-pub(crate) fn evaluate_all<L: Ledger>(
+/// Evaluates chains of operations so many times and once more, and prints how many nodes and values there are.
+pub(crate) fn links<K: Kind, L: Ledger>(
     rt: &(impl Print + AllocGlobal),
-    numbers: &mut Numbers<'_>,
+    turns: u32,
     steps: &mut Steps<L>,
 ) -> Result<()> {
-    for _ in 0..numbers.next::<u32>()? {
-        evaluate_next(rt, numbers, steps)?;
-    }
-    Ok(())
-}
-
-// The kind of numbers; how many endogenous and exogenous variables and parameters there are; the horizon, the periods that
-// are evaluated and how many times more; the values beside the path and those of the path; and the nodes and the roots.
-fn evaluate_next<L: Ledger>(
-    rt: &(impl Print + AllocGlobal),
-    numbers: &mut Numbers<'_>,
-    steps: &mut Steps<L>,
-) -> Result<()> {
-    let kind = numbers.next::<u32>()?;
-    let names = next_names(rt.alloc(), numbers)?;
-    let mut graph = Graph::new(rt.alloc(), names);
-    let result = evaluate_in(rt, &mut graph, kind, numbers, steps);
+    let mut graph = Graph::new(rt.alloc(), Names::new(rt.alloc()));
+    let result = links_in::<K, L>(rt, &mut graph, turns, steps);
     // By a call, since what a graph holds is dear to prove let go at a block's end.
     drop(graph);
     result
 }
 
-fn evaluate_in<L: Ledger>(
+fn links_in<K: Kind, L: Ledger>(
     rt: &(impl Print + AllocGlobal),
-    graph: &mut Graph<'static>,
-    kind: u32,
-    numbers: &mut Numbers<'_>,
+    graph: &mut Graph<'_>,
+    turns: u32,
     steps: &mut Steps<L>,
 ) -> Result<()> {
-    let span = next_span(numbers)?;
-    let frame = next_frame(rt.alloc(), graph.names(), span.periods, numbers)?;
-    let roots = next_roots(rt.alloc(), graph, numbers)?;
-    let case = Case {
-        graph,
-        roots: &roots,
-        frame: &frame,
-        span,
+    let Ok(roots) = roots_of(rt.alloc(), graph) else {
+        bail!("no graph");
     };
-    evaluate_as(rt, &case, kind, steps)
+    evaluate::<K, L>(rt, graph, &roots, turns, steps)
 }
 
-fn evaluate_as<L: Ledger>(
+/// Evaluates 31 squares in one another.
+pub(crate) fn squares<L: Ledger>(
     rt: &(impl Print + AllocGlobal),
-    case: &Case<'_>,
-    kind: u32,
     steps: &mut Steps<L>,
 ) -> Result<()> {
-    if kind == 0 {
-        evaluate::<Fix, L>(rt, case, steps)
-    } else {
-        evaluate::<Iv, L>(rt, case, steps)
-    }
+    let mut graph = Graph::new(rt.alloc(), Names::new(rt.alloc()));
+    let result = squares_in(rt, &mut graph, steps);
+    drop(graph);
+    result
 }
 
-fn next_span(numbers: &mut Numbers<'_>) -> Result<Span> {
-    Ok(Span {
-        periods: numbers.next::<u32>()?,
-        first: numbers.next::<u32>()?,
-        last: numbers.next::<u32>()?,
-        more: numbers.next::<u32>()?,
-    })
-}
-
-// Evaluates a case in each of its periods, and prints what the last one gives.
-fn evaluate<K: Kind + Tell, L: Ledger>(
+fn squares_in<L: Ledger>(
     rt: &(impl Print + AllocGlobal),
-    case: &Case<'_>,
+    graph: &mut Graph<'_>,
     steps: &mut Steps<L>,
 ) -> Result<()> {
-    if repeat::<K, L>(rt.alloc(), case, steps).is_err() {
-        bail!("no such evaluation");
-    }
-    let ready = Ready {
-        frame: case.frame,
-        period: case.span.last,
+    let Ok(root) = chain(graph, 31) else {
+        bail!("no graph");
     };
-    let Ok(answer) = answered::<K, L>(rt.alloc(), case.graph, case.roots, &ready, steps) else {
-        bail!("no such evaluation");
-    };
-    tell_answer(rt, &answer)
+    evaluate::<Fix, L>(rt, graph, &[root], 0, steps)
 }
 
-fn tell_answer<K: Kind + Tell>(rt: &impl Print, answer: &Answer<K>) -> Result<()> {
-    for value in &answer.values {
-        (*value).tell(rt)?;
-    }
-    match answer.fault {
-        Some(fault) => fault.tell(rt),
-        None => Ok(()),
-    }
-}
-
-// Evaluates a case in each of its periods but the last.
-fn repeat<K: Kind, L: Ledger>(
-    alloc: Global,
-    case: &Case<'_>,
-    steps: &mut Steps<L>,
-) -> Result<(), Refused> {
-    let mut scratch = Scratch::<K>::reserve(alloc, case.graph.nodes())?;
-    repeat_in(alloc, case, &mut scratch, steps)
-}
-
-fn repeat_in<K: Kind, L: Ledger>(
-    alloc: Global,
-    case: &Case<'_>,
-    scratch: &mut Scratch<K>,
-    steps: &mut Steps<L>,
-) -> Result<(), Refused> {
-    let (graph, roots) = (case.graph, case.roots);
-    for period in case.span.first..case.span.last {
-        let ready = Ready {
-            frame: case.frame,
-            period,
+// Three links each over 24 numbers near 1.
+fn roots_of(alloc: Global, graph: &mut Graph<'_>) -> Result<Vec<NodeId>, Refused> {
+    let mut roots = Vec::new(alloc);
+    for turn in 0..110 {
+        let root = root(graph, turn)?;
+        let Ok(()) = roots.push(root) else {
+            return Err(Refused::NoMemory);
         };
-        let _ = evaluated(alloc, graph, roots, &ready, case.span.more, scratch, steps)?;
     }
+    Ok(roots)
+}
+
+fn root(graph: &mut Graph<'_>, turn: u8) -> Result<NodeId, Refused> {
+    let mut last = leaf(graph, turn)?;
+    for link in 0..3u8 {
+        let x = leaf(graph, turn / 24 + link)?;
+        let y = leaf(graph, turn / 3 + link)?;
+        last = linked(graph, last, x, y)?;
+    }
+    Ok(last)
+}
+
+fn leaf(graph: &mut Graph<'_>, place: u8) -> Result<NodeId, Refused> {
+    let m = 1_000_000_001 + 10 * u128::from(place % 24);
+    added(graph, NodeOp::Leaf(LeafOp::Num { m, s: 9 }), &[])
+}
+
+// The greater of ((last * x + y) / (last * x))^2 - x and y.
+fn linked(graph: &mut Graph<'_>, last: NodeId, x: NodeId, y: NodeId) -> Result<NodeId, Refused> {
+    let product = added(graph, NodeOp::Binary(BinaryOp::Mul), &[last, x])?;
+    let sum = added(graph, NodeOp::Binary(BinaryOp::Add), &[product, y])?;
+    let ratio = added(graph, NodeOp::Binary(BinaryOp::Div), &[sum, product])?;
+    let square = added(graph, NodeOp::Pow(2), &[ratio])?;
+    let rest = added(graph, NodeOp::Binary(BinaryOp::Sub), &[square, x])?;
+    added(graph, NodeOp::Binary(BinaryOp::Max), &[rest, y])
+}
+
+fn evaluate<K: Kind, L: Ledger>(
+    rt: &(impl Print + AllocGlobal),
+    graph: &Graph<'_>,
+    roots: &[NodeId],
+    turns: u32,
+    steps: &mut Steps<L>,
+) -> Result<()> {
+    let (none, alloc) = (Vec::new(rt.alloc()), rt.alloc());
+    let Ok(frame) = Frame::new(alloc, 1, 0, none, Vec::new(alloc), Vec::new(alloc)) else {
+        bail!("no memory");
+    };
+    let ready = Ready {
+        frame: &frame,
+        period: 1,
+    };
+    let Ok(answer) = answered::<K, L>(alloc, graph, roots, &ready, turns, steps) else {
+        bail!("no such evaluation");
+    };
+    println!(rt; "{} nodes, {} values", graph.nodes(), answer.values.len())?;
     Ok(())
 }

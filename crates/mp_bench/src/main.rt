@@ -3,29 +3,22 @@
 //! | Words | Job |
 //! |---|---|
 //! | `full T N`, `near T N` | eliminates a band of T periods of N rows that are full, or have four to six entries |
-//! | `twice` | eliminates two systems of 40,000 rows in one band |
-//! | `systems FILE` | eliminates the systems of a file, as matrices and as bands |
-//! | `products COUNT`, `quotients COUNT` | so many operations on points, each on the result of the one before |
-//! | `graph EQUATIONS SUMS PASSES` | builds equations of so many sums in one graph, and negates the leaves of some |
-//! | `evaluate` | evaluates the graphs of the input |
+//! | `points TURNS`, `intervals TURNS` | evaluates a graph of some 2,000 nodes so many times, and once more |
+//! | `squares` | evaluates 31 squares in one another |
 #![tactic(auto)]
 
-ghost use Rattle.std.specs.Prelude.{◌≡◌, ◌<◌};
+ghost use Rattle.std.specs.Prelude.{◌≡◌, ◌≤◌, ◌<◌};
+ghost use Rattle.std.specs.Vec.Iter.{into_iter_len};
 
 mod bands;
 mod evaluations;
-mod frames;
-mod graph;
-mod job;
-mod nodes;
-mod numbers;
-mod points;
-mod systems;
-mod tell;
 
-use crate::job::Job;
-use anyhow::{Result, bail};
+use crate::bands::Pattern;
+use anyhow::{Context, Result, bail};
+use mp_base::Steps;
+use mp_fix::{Fix, Iv};
 use std::env;
+use std::env::Args;
 use std::marker::Brand;
 use std::sync::ledger::{Blank, Ledger};
 
@@ -41,12 +34,33 @@ fn jobs<L: Ledger>(rt: &HostRuntime, blank: Blank) -> Result<()>
     let mut steps = mp_steps::start::<L>(blank);
     let mut words = env::args(rt)?;
     let _program = words.next();
-    if words.len() == 0 {
-        bail!("no job");
-    }
     'jobs: while let Some(name) = words.next() {
-        let job = Job::of(name.as_str(), &mut words)?;
-        job.run(rt, &mut steps)?;
+        run(rt, name.as_str(), &mut words, &mut steps)?;
     }
     Ok(())
+}
+
+// Does the job of this name, whose own words come next.
+fn run<L: Ledger>(
+    rt: &HostRuntime,
+    name: &str,
+    words: &mut Args,
+    steps: &mut Steps<L>,
+) -> Result<()>
+    ensures { into_iter_len words.new ≤ into_iter_len words.old }
+{
+    match name {
+        "full" => bands::large(rt, Pattern::Full, number(words)?, number(words)?, steps),
+        "near" => bands::large(rt, Pattern::Near, number(words)?, number(words)?, steps),
+        "points" => evaluations::links::<Fix, L>(rt, number(words)?, steps),
+        "intervals" => evaluations::links::<Iv, L>(rt, number(words)?, steps),
+        "squares" => evaluations::squares(rt, steps),
+        _ => bail!("no such job"),
+    }
+}
+
+fn number(words: &mut Args) -> Result<u32>
+    ensures { into_iter_len words.new ≤ into_iter_len words.old }
+{
+    Ok(words.next().context("no number")?.parse::<u32>()?)
 }

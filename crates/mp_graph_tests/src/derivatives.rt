@@ -77,8 +77,8 @@ fn counts_of_cube(alloc: Global) -> Result<(usize, u128, u128), NoMemory> {
 #[test]
 fn a_cube_has_one_place_and_a_derivative_of_two_operations(rt: HostRuntime) -> Result<(), Fail> {
     let (places, said, built) = counts_of_cube(rt.alloc())?;
-    assert_eq!(rt; places, 1);
-    assert_eq!(rt; said, 2);
-    assert_eq!(rt; built, 2);
+    assert!(rt; places == 1);
+    assert!(rt; said == 2);
+    assert!(rt; built == 2);
     Ok(())
 }

@@ -342,7 +342,7 @@ fn answer_in<K: Kind, L: Ledger>(
         frame: &frame,
         period: 1,
     };
-    let answer = answered(alloc, graph, &roots, &ready, steps);
+    let answer = answered(alloc, graph, &roots, &ready, 0, steps);
     answer.expect(rt, "cannot be evaluated")
 }
 
@@ -416,7 +416,7 @@ fn squares_in<L: Ledger>(
         frame: &frame,
         period: 1,
     };
-    answered(alloc, graph, &[root], &ready, steps)
+    answered(alloc, graph, &[root], &ready, 0, steps)
 }
 
 // What so many squares give, if they can be evaluated.

@@ -115,8 +115,8 @@ fn both_names(alloc: Global) -> Result<(&'static [u8], &'static [u8]), NoMemory>
 #[test]
 fn names_are_those_given(rt: HostRuntime) -> Result<(), Fail> {
     let (x, p) = both_names(rt.alloc())?;
-    assert_eq!(rt; x, X);
-    assert_eq!(rt; p, P);
+    assert!(rt; x == X);
+    assert!(rt; p == P);
     Ok(())
 }
 
@@ -157,9 +157,9 @@ fn counts(alloc: Global) -> Result<(usize, usize, usize), NoMemory> {
 #[test]
 fn a_node_that_is_there_is_not_made_again(rt: HostRuntime) -> Result<(), Fail> {
     let (nodes, own, copied) = counts(rt.alloc())?;
-    assert_eq!(rt; nodes, 7);
-    assert_eq!(rt; own, 7);
-    assert_eq!(rt; copied, 7);
+    assert!(rt; nodes == 7);
+    assert!(rt; own == 7);
+    assert!(rt; copied == 7);
     Ok(())
 }
 
@@ -190,8 +190,8 @@ fn sizes(alloc: Global) -> Result<(u64, u128), NoMemory> {
 #[test]
 fn a_tree_has_each_part_for_itself(rt: HostRuntime) -> Result<(), Fail> {
     let (height, count) = sizes(rt.alloc())?;
-    assert_eq!(rt; height, 5);
-    assert_eq!(rt; count, 4);
+    assert!(rt; height == 5);
+    assert!(rt; count == 4);
     Ok(())
 }
 
@@ -225,9 +225,9 @@ fn image_sizes(alloc: Global) -> Result<(usize, (u64, u128)), NoMemory> {
 #[test]
 fn a_pass_makes_what_is_new(rt: HostRuntime) -> Result<(), Fail> {
     let (nodes, (height, count)) = image_sizes(rt.alloc())?;
-    assert_eq!(rt; nodes, 14);
-    assert_eq!(rt; height, 6);
-    assert_eq!(rt; count, 8);
+    assert!(rt; nodes == 14);
+    assert!(rt; height == 6);
+    assert!(rt; count == 8);
     Ok(())
 }
 
@@ -265,7 +265,7 @@ fn depth(alloc: Global, limit: u64) -> Result<Result<u64, TooDeep>, NoMemory> {
 fn a_height_has_a_limit(rt: HostRuntime) -> Result<(), Fail> {
     for (limit, answer) in DEPTHS {
         let found = depth(rt.alloc(), *limit)?;
-        assert_eq!(rt; found, *answer);
+        assert!(rt; found == *answer);
     }
     Ok(())
 }

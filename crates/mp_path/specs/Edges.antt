@@ -5,7 +5,7 @@ use Rattle.mp_rational.specs.Fraction.{Fraction, ratio_of}
 use Rattle.mp_rational.specs.Lowest.{numerator, denominator}
 use Rattle.mp_rational.proofs.Lowest.{ratio_of-parts}
 use Rattle.mp_semantics.specs.Term.{Variable, endogenous, exogenous}
-use Rattle.mp_semantics.specs.Solves.{is_inside, is_near}
+use Rattle.mp_semantics.specs.Solves.{Edge, is_inside, is_near}
 
 -- the values of parameters; of each endogenous variable in turn the 25 up to period 0 and the 24 behind the horizon; and
 -- of each exogenous variable in turn those of all periods from -24 on
@@ -37,11 +37,19 @@ periods_to (negsuc k) = 23 - k
 abbrev pub outside_to : ℕ → ℤ → ℕ
 outside_to T t = if nat_le (periods_to t) 24 then (periods_to t) else (periods_to t - T)
 
--- the value that stands for a variable in a period near the horizon
-abbrev pub near_value : Edges → Variable → ℤ → Option Fraction
-near_value b (endogenous v) t = if is_inside b.periods t then None else (slice_get b.endogenous (v * 49 + outside_to b.periods t))
-near_value b (exogenous v) t = slice_get b.exogenous (v * (b.periods + 49) + periods_to t)
+-- what these lists have for a variable in a period near the horizon
+abbrev pub listed_near : ℕ → List Fraction → List Fraction → Variable → ℤ → Option Fraction
+listed_near T endo exo (endogenous v) t = if is_inside T t then None else (slice_get endo (v * 49 + outside_to T t))
+listed_near T endo exo (exogenous v) t = slice_get exo (v * (T + 49) + periods_to t)
 
--- what the edges have, if anything: values of the periods from -24 to 24 behind the last one, of endogenous variables outside the horizon
-abbrev pub edge_of : Edges → Variable → ℤ → Option Fraction
-edge_of b x t = if is_near b.periods t then (near_value b x t) else None
+-- what they have in any: values of the periods from -24 to 24 behind the last one, of endogenous variables outside the horizon
+abbrev pub listed_edge : ℕ → List Fraction → List Fraction → Edge
+listed_edge T endo exo x t = if is_near T t then (listed_near T endo exo x t) else None
+
+-- what the edges have for a variable in a period, if anything
+abbrev pub edge_of : Edges → Edge
+edge_of b x t = listed_edge b.periods b.endogenous b.exogenous x t
+
+-- what they have for a parameter, by its place
+abbrev pub parameter_of : Edges → ℕ → Option Fraction
+parameter_of b p = slice_get b.parameters p

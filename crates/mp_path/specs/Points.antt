@@ -1,5 +1,5 @@
 -- The values of a grid.
-use Rattle.std.specs.Prelude.{ℕ, ℤ, pos, negsuc, ◌+◌, ◌-◌, ◌*◌, ◌≤◌, ◌<ℤ◌, List, slice_get, Option, None, option_map, if◌then◌else◌, nat_lt, refl}
+use Rattle.std.specs.Prelude.{ℕ, ℤ, pos, negsuc, ◌+◌, ◌-◌, ◌*◌, ◌<◌, ◌≤◌, ◌<ℤ◌, IsSome, List, slice_get, Option, None, option_map, if◌then◌else◌, nat_lt, refl}
 use Rattle.std.specs.Coded.{Coded, code_by, coded×, coded_ℕ, coded_ℤ, coded_list}
 use Rattle.std.specs.Int.RustNames.{unsigned_abs}
 use Rattle.mp_base.specs.declared.fraction.Ratio.{Ratio}
@@ -8,7 +8,7 @@ use Rattle.mp_fix.specs.Units.{part_limit}
 use Rattle.mp_semantics.specs.Term.{Variable, endogenous, exogenous}
 use Rattle.mp_semantics.specs.Solves.{is_inside}
 use Rattle.mp_walk.specs.Cells as w
-use Rattle.mp_path.specs.Edges.{Edges, edge_of, edges_code}
+use Rattle.mp_path.specs.Edges.{Edges, edge_of, parameter_of, edges_code}
 use Rattle.mp_path.specs.declared.grid.Cell.{Cell}
 use Rattle.mp_path.specs.declared.grid.Cell.TheVariants.{Units, Exact}
 
@@ -38,9 +38,17 @@ point_of g (endogenous v) t =
     if is_inside g.edges.periods t then (option_map w.units (units_at g v t)) else (option_map w.exact (edge_of g.edges (endogenous v) t))
 point_of g (exogenous v) t = option_map w.exact (edge_of g.edges (exogenous v) t)
 
+-- what stands for each slot in each period of the horizon
+abbrev pub AllSlots : (Option w.Cell → Type 0) → Points → Type 0
+AllSlots P g = (v t : ℕ) → v < g.slots → 1 ≤ t → t ≤ g.edges.periods → P (point_of g (endogenous v) (pos t))
+
+-- each slot has a number in each period
+abbrev pub IsFilled : Points → Type 0
+IsFilled = AllSlots (λ q. IsSome q)
+
 -- all that a walk can read
 abbrev pub cells_of : Points → w.Cells
-cells_of g = record { value = point_of g; parameter_value = λ p. slice_get g.edges.parameters p; terminal = pos (g.edges.periods + 1) }
+cells_of g = record { value = point_of g; parameter_value = parameter_of g.edges; terminal = pos (g.edges.periods + 1) }
 
 -- the fraction of these parts
 abbrev pub ratio_value : Ratio → Fraction

@@ -1,8 +1,9 @@
 // What stands beside a path.
-ghost use Rattle.std.specs.Prelude.{◌≡◌, ◌+◌, ◌*◌, ◌^◌, ◌<◌, ◌≤ℤ◌, negsuc, map, slice_get, Some, IsSome, IfOk};
+ghost use Rattle.std.specs.Prelude.{◌≡◌, ◌+◌, ◌*◌, ◌^◌, ◌<◌, ◌≤ℤ◌, ℕ, ℤ, negsuc, map, slice_get, Some, IsSome, IfOk};
 ghost use Rattle.mp_expr.specs.Shown.{place_of, variable_of};
 ghost use Rattle.mp_frac.specs.Value.{value_of};
-ghost use Rattle.mp_path.specs.Edges.{edge_of, periods_to, outside_to};
+ghost use Rattle.mp_semantics.specs.Term.{Variable};
+ghost use Rattle.mp_path.specs.Edges.{edge_of, listed_edge, parameter_of, periods_to, outside_to};
 
 use mp_base::NoMemory;
 use mp_expr::VarId;
@@ -48,12 +49,9 @@ impl Boundary {
         endogenous: Vec<Frac>,
         exogenous: Vec<Frac>,
     ) -> Boundary
-        ensures { result ≡ record {
-          periods = periods;
-          parameters = map value_of parameters.items;
-          endogenous = map value_of endogenous.items;
-          exogenous = map value_of exogenous.items;
-        } }
+        ensures periods { result.periods ≡ periods }
+        ensures parameters { (p : ℕ) → parameter_of result p ≡ slice_get (map value_of parameters.items) p }
+        ensures values { (x : Variable) (t : ℤ) → edge_of result x t ≡ listed_edge periods (map value_of endogenous.items) (map value_of exogenous.items) x t }
     {
         Boundary {
             periods,
@@ -72,8 +70,8 @@ impl Boundary {
 
     /// The value of a parameter, by its number from 1.
     pub fn param(&self, p: u32) -> Frac
-        requires { IsSome (slice_get self.now.parameters (place_of p)) }
-        ensures { slice_get self.now.parameters (place_of p) ≡ Some (value_of result) }
+        requires { IsSome (parameter_of self.now (place_of p)) }
+        ensures { parameter_of self.now (place_of p) ≡ Some (value_of result) }
     {
         self.parameters[place_of(p) as usize]
     }

@@ -1,11 +1,11 @@
 // The values of a path.
-ghost use Rattle.std.specs.Prelude.{◌≡◌, ◌+◌, ◌-◌, ◌*◌, ◌≤◌, ◌<◌, ℤ, pos, replicate, slice_get, option_map, length, Some, IsSome, IfOk};
+ghost use Rattle.std.specs.Prelude.{◌≡◌, ◌+◌, ◌-◌, ◌*◌, ◌≤◌, ◌<◌, ℤ, pos, option_map, length, Some, IsSome, IfOk};
 ghost use Rattle.mp_expr.specs.Shown.{place_of, variable_of};
 ghost use Rattle.mp_semantics.specs.Term.{Variable, endogenous};
 ghost use Rattle.mp_semantics.specs.Solves.{is_inside};
 ghost use Rattle.mp_walk.specs.Cells.{units, exact};
-ghost use Rattle.mp_path.specs.Edges.{edge_of};
-ghost use Rattle.mp_path.specs.Points.{point_of, slot_place, cell_of, ratio_value, IsCell, IsPart};
+ghost use Rattle.mp_path.specs.Edges.{edge_of, parameter_of};
+ghost use Rattle.mp_path.specs.Points.{point_of, slot_place, cell_of, ratio_value, AllSlots, IsFilled, IsCell, IsPart};
 
 use crate::boundary::{Boundary, place_of};
 use mp_base::{NoMemory, Ratio};
@@ -55,7 +55,7 @@ impl Grid {
         requires { periods ≡ boundary.now.periods }
         ensures edges { IfOk result (λ g. g.edges ≡ boundary.now) }
         ensures slots { IfOk result (λ g. g.slots ≡ slots) }
-        ensures zero { IfOk result (λ g. g.units ≡ replicate (periods * slots) (pos 0)) }
+        ensures zero { IfOk result (AllSlots (λ q. q ≡ Some (units (pos 0)))) }
     {
         let units = vec![in alloc; zero(); periods as usize * slots as usize]?;
         Ok(Grid {
@@ -104,16 +104,17 @@ impl Grid {
 
     /// The value of a parameter, by its number from 1.
     pub fn param(&self, p: u32) -> Ratio
-        requires { IsSome (slice_get self.now.edges.parameters (place_of p)) }
-        ensures value { slice_get self.now.edges.parameters (place_of p) ≡ Some (ratio_value result) }
+        requires { IsSome (parameter_of self.now.edges (place_of p)) }
+        ensures value { parameter_of self.now.edges (place_of p) ≡ Some (ratio_value result) }
         ensures within { IsPart result }
     {
         self.boundary.param(p).parts()
     }
 
-    /// The last period of the horizon.
+    /// The last period of the horizon, in each of whose periods each slot has a number.
     pub fn periods(&self) -> u32
-        ensures { result ≡ self.now.edges.periods }
+        ensures value { result ≡ self.now.edges.periods }
+        ensures filled { IsFilled self.now }
     {
         self.boundary.periods()
     }

@@ -3,8 +3,10 @@
 
 mod boundary;
 mod grid;
+mod law;
 mod lists;
 
 pub use boundary::Boundary;
 pub use grid::{Cell, Grid};
-pub use lists::{Active, Mult, Mults, Options, Regimes, Side, Tagged};
+pub use law::environment_law;
+pub use lists::{Active, ByPeriod, Mult, Mults, Options, Regimes, Side, Tagged};

@@ -1,6 +1,10 @@
 // What is in force in each period, and the options of a solver.
+ghost use Rattle.std.specs.Prelude.{◌≡◌, ◌-◌, ◌≤◌, [], ◌∷◌, ◌++◌, length, slice_get, Some, OnOk, OnErr};
 
+use mp_base::NoMemory;
 use mp_fix::Fix;
+use std::alloc::Global;
+use std::marker::Model;
 
 /// A bound of a pair of an equation and a variable (Dynare manual, "Perfect foresight", on mixed complementarity).
 #[derive(Clone, Copy, Debug, PartialEq, Eq, PartialOrd, Ord)]
@@ -23,23 +27,65 @@ pub struct Mult {
     pub units: Fix,
 }
 
-/// The numbers of the constraints that bind, from 1, for each period from 1 on, in rising order (Dynare manual,
-/// "Occasionally binding constraints").
+/// A list for each period from 1 on.
 #[derive(Drop)]
-pub struct Regimes {
-    pub periods: Vec<Vec<u32>>,
+pub struct ByPeriod<T: Drop> {
+    periods: Vec<Vec<T>>,
 }
 
-/// The sides at which variables stand, for each period from 1 on, in rising order.
-#[derive(Drop)]
-pub struct Active {
-    pub periods: Vec<Vec<Tagged>>,
+/// The numbers of the constraints that bind, from 1, in rising order (Dynare manual, "Occasionally binding constraints").
+pub type Regimes = ByPeriod<u32>;
+
+/// The sides at which variables stand, in rising order.
+pub type Active = ByPeriod<Tagged>;
+
+/// The multipliers of sides, in rising order.
+pub type Mults = ByPeriod<Mult>;
+
+impl<T: Drop> Model for ByPeriod<T> {
+    ghost use Rattle.std.specs.Prelude.{List, map};
+
+    ghost Value = { List (List T) };
+
+    ghost view = { λ l. map (λ p. p.items) l.periods.items };
 }
 
-/// The multipliers of sides, for each period from 1 on, in rising order.
-#[derive(Drop)]
-pub struct Mults {
-    pub periods: Vec<Vec<Mult>>,
+impl<T: Drop> ByPeriod<T> {
+    /// No periods.
+    pub fn new(alloc: Global) -> ByPeriod<T>
+        ensures { result ≡ [] }
+    {
+        ByPeriod {
+            periods: Vec::new(alloc),
+        }
+    }
+
+    /// Appends the list of the next period, or changes nothing.
+    pub fn add(&mut self, period: Vec<T>) -> Result<(), NoMemory>
+        ensures ok { OnOk result (self.new ≡ self.old ++ period.items ∷ []) }
+        ensures err { OnErr result (self.new ≡ self.old) }
+    {
+        match self.periods.push(period) {
+            Ok(()) => Ok(()),
+            Err(_) => Err(NoMemory),
+        }
+    }
+
+    /// How many periods there are.
+    pub fn periods(&self) -> usize
+        ensures { result ≡ length self.now }
+    {
+        self.periods.len()
+    }
+
+    /// The list of a period, lent.
+    pub fn period(&self, t: u32) -> &[T]
+        requires first { 1 ≤ t }
+        requires last { t ≤ length self.now }
+        ensures { slice_get self.now (t - 1) ≡ Some result.now }
+    {
+        self.periods[t as usize - 1].as_slice()
+    }
 }
 
 /// The options of a solver (Dynare manual, "Perfect foresight"): the greatest residual, the least pivot, and how many

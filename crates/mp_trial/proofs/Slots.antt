@@ -1,69 +1,80 @@
--- Slots of a grid, new and after one is put.
-use Rattle.std.proofs.Common.{rules, ◌≡◌, ◌∙◌, ℕ, ℤ, zero, suc, pos, negsuc, ◌+◌, ◌*◌, ◌<◌, ◌≤◌, ◌⊎◌, true, false, List, length, replicate, get_or, Option, Some, ap, sym, refl, subst, arith, inl, inr}
-use Rattle.std.specs.Prelude.{slice_get, IsSome, nat_lt}
-use Rattle.std.proofs.lemmas.Bool.{cases_eq}
+-- What the values of a boundary come to, and what stands for a slot.
+use Rattle.std.proofs.Common.{rules, ◌≡◌, ◌∙◌, ℕ, ℤ, zero, suc, pos, negsuc, ◌+◌, ◌-◌, ◌*◌, ◌/◌, ◌<◌, ◌≤◌, Bool, true, false, cond, List, [], ◌∷◌, length, map, get_or, Option, Some, ap, sym, refl, subst, arith}
+use Rattle.std.specs.Prelude.{slice_get, IsSome, IsTrue, nat_lt, nat_le}
 use Rattle.std.proofs.lemmas.Bool.Decides.{nat_tests}
-use Rattle.std.proofs.lemmas.List.{length-replicate}
-use Rattle.std.proofs.lemmas.Option.{slice_get-get_or, slice_get_cases}
+use Rattle.std.proofs.lemmas.List.{length-map}
+use Rattle.std.proofs.Math.Nat.{div-mul-le_self}
+use Rattle.mp_rational.specs.Fraction.{Fraction}
+use Rattle.mp_frac.specs.Value.{value_of}
+use Rattle.mp_frac.specs.declared.frac.Frac.{Frac}
 use Rattle.mp_semantics.specs.Term.{Variable, endogenous, exogenous}
 use Rattle.mp_semantics.specs.Solves.{is_inside, is_near}
-use Rattle.mp_walk.specs.Cells.{Cell, units}
-use Rattle.mp_path.specs.Edges.{Edges, edge_of, outside_to}
-use Rattle.mp_path.specs.Points.{Points, point_of, slot_place}
+use Rattle.mp_walk.specs.Cells.{Cell}
+use Rattle.mp_path.specs.Points.{Points, point_of, IsFilled}
+use Rattle.mp_path.specs.Edges.{Edges, edge_of, parameter_of, listed_edge, periods_to, outside_to}
 use Rattle.mp_trial.specs.Full.{IsFull}
 
-number_in : Variable → ℕ
-number_in (endogenous v) = v
-number_in (exogenous v) = v
+some_at : (xs : List Fraction) (i : ℕ) → i < length xs → IsSome (slice_get xs i)
+some_at [] i h = absurd (omega arith)
+some_at (x ∷ xs) zero h = refl
+some_at (x ∷ xs) (suc i) h = some_at xs i (omega arith)
 
-size_in : ℤ → ℕ
-size_in (pos t) = t
-size_in (negsuc t) = t
+row_below : (q w v r : ℕ) → v < q → r < w → v * w + r < q * w
+row_below q w v r h k = search rules
 
--- all other slots stay
-pub slots_put : (old new : Points) (k u : ℕ) (x : ℤ) (p e y : ℕ) → IsFull old p e y → new.edges ≡ old.edges → new.slots ≡ old.slots
-    → point_of new (endogenous k) (pos u) ≡ Some (units x)
-    → ((w : Variable) (s : ℤ) → (w ≡ endogenous k → s ≡ pos u → ⊥) → point_of new w s ≡ point_of old w s)
-    → IsFull new p e y
-unfolding number_in size_in
-slots_put old new k u x p e y full he hs put others = record {
-  parameter_count = full.parameter_count ∙ ap (λ (b : Edges). length b.parameters) (sym he);
-  endogenous_count = full.endogenous_count ∙ ap (λ (b : Edges). length b.endogenous) (sym he);
-  exogenous_count = full.exogenous_count ∙ ap (λ (b : Edges). length b.exogenous) (sym he);
-  slots = λ v t hv h1 h2. each v t (subst (λ (n : ℕ). v < n) hs hv) h1 (subst (λ (b : Edges). t ≤ b.periods) he h2) (cases_eq v k) (cases_eq t u);
+part_below : (n w v r : ℕ) → v < n / w → r < w → v * w + r < n
+part_below n w v r h k = omega (arith, row_below (n / w) w v r h k, div-mul-le_self n w)
+
+either_below : (b : Bool) (p q n : ℕ) → (b ≡ true → p < n) → (b ≡ false → q < n) → cond b p q < n
+either_below true p q n h k = h refl
+either_below false p q n h k = k refl
+
+-- a period beside the horizon has one of 49 places
+beside_within : (T : ℕ) (t : ℤ) → is_near T t ≡ true → is_inside T t ≡ false → outside_to T t < 49
+beside_within T (negsuc k) near out = either_below (nat_le (23 - k) 24) (23 - k) (23 - k - T) 49 (λ e. omega arith) (λ e. omega arith)
+beside_within T (pos zero) near out = either_below (nat_le (0 + 24) 24) (0 + 24) (0 + 24 - T) 49 (λ e. omega arith) (λ e. omega arith)
+beside_within T (pos (suc s)) near out =
+    let last : suc s < T + 25 = grind (arith, nat_tests) in
+    let first : T ≤ s = grind (arith, nat_tests) in
+    either_below (nat_le (suc s + 24) 24) (suc s + 24) (suc s + 24 - T) 49
+    (λ e. let small : suc s + 24 ≤ 24 = grind (arith, nat_tests) in omega (arith, small))
+    (λ e. omega (arith, last, first))
+
+near_within : (T : ℕ) (t : ℤ) → is_near T t ≡ true → periods_to t < T + 49
+near_within T (pos t) near = let last : t < T + 25 = grind (arith, nat_tests) in omega (arith, last)
+near_within T (negsuc k) near = omega arith
+
+endo_there : (T : ℕ) (es xs : List Fraction) (v : ℕ) (t : ℤ) → v < length es / 49 → is_near T t ≡ true → is_inside T t ≡ false
+    → IsSome (listed_edge T es xs (endogenous v) t)
+endo_there T es xs v t h near out =
+    rw (near, out) (some_at es (v * 49 + outside_to T t) (part_below (length es) 49 v (outside_to T t) h (beside_within T t near out)))
+
+exo_there : (T : ℕ) (es xs : List Fraction) (v : ℕ) (t : ℤ) → v < length xs / (T + 49) → is_near T t ≡ true
+    → IsSome (listed_edge T es xs (exogenous v) t)
+exo_there T es xs v t h near =
+    rw near (some_at xs (v * (T + 49) + periods_to t) (part_below (length xs) (T + 49) v (periods_to t) h (near_within T t near)))
+
+-- a boundary has what these lists come to
+pub full_new : (b : Edges) (T : ℕ) (ps es xs : List Frac) (p e x : ℕ) → p ≡ length ps → e ≡ length es → x ≡ length xs → b.periods ≡ T → ((p : ℕ) → parameter_of b p ≡ slice_get (map value_of ps) p)
+    → ((x : Variable) (t : ℤ) → edge_of b x t ≡ listed_edge T (map value_of es) (map value_of xs) x t)
+    → IsFull b p (e / 49) (x / (T + 49))
+full_new b T ps es xs p e x lp le lx hT hp hv = record {
+  parameters = λ n h. subst (λ (q : Option Fraction). IsSome q) (sym (hp n)) (some_at (map value_of ps) n (subst (λ (m : ℕ). n < m) (lp ∙ sym (length-map ps value_of)) h));
+  endogenous = λ v t h near out.
+      subst (λ (q : Option Fraction). IsSome q) (sym (hv (endogenous v) t))
+      (endo_there T (map value_of es) (map value_of xs) v t (subst (λ (m : ℕ). v < m / 49) (le ∙ sym (length-map es value_of)) h)
+      (subst (λ (n : ℕ). is_near n t ≡ true) hT near) (subst (λ (n : ℕ). is_inside n t ≡ false) hT out));
+  exogenous = λ v t h near.
+      subst (λ (q : Option Fraction). IsSome q) (sym (hv (exogenous v) t))
+      (exo_there T (map value_of es) (map value_of xs) v t (subst (λ (m : ℕ). v < m / (T + 49)) (lx ∙ sym (length-map xs value_of)) h)
+      (subst (λ (n : ℕ). is_near n t ≡ true) hT near));
 }
-  where
-    same : (v t : ℕ) → v < old.slots → 1 ≤ t → t ≤ old.edges.periods → (endogenous v ≡ endogenous k → pos t ≡ pos u → ⊥) → IsSome (point_of new (endogenous v) (pos t))
-    same v t hv h1 h2 ne = subst (λ (q : Option Cell). IsSome q) (sym (others (endogenous v) (pos t) ne)) (full.slots v t hv h1 h2)
 
-    each : (v t : ℕ) → v < old.slots → 1 ≤ t → t ≤ old.edges.periods → (v ≡ k) ⊎ (v ≡ k → ⊥) → (t ≡ u) ⊎ (t ≡ u → ⊥) → IsSome (point_of new (endogenous v) (pos t))
-    each v t hv h1 h2 (inl a) (inl b) =
-        subst (λ (q : Option Cell). IsSome q) (sym (ap (λ (i : ℕ). point_of new (endogenous i) (pos t)) a ∙ (ap (λ (j : ℕ). point_of new (endogenous k) (pos j)) b ∙ put))) refl
-    each v t hv h1 h2 (inl a) (inr b) = same v t hv h1 h2 (λ i j. b (ap size_in j))
-    each v t hv h1 h2 (inr a) b = same v t hv h1 h2 (λ i j. a (ap number_in i))
-
-place_within : (T n t v : ℕ) → 1 ≤ t → t ≤ T → v < n → slot_place n t v < T * n
-place_within T n t v h1 h2 hv = search rules
-
-inside_from : (T t : ℕ) → 1 ≤ t → t ≤ T → is_inside T (pos t) ≡ true
-inside_from T zero h1 h2 = absurd (omega (arith, h1))
-inside_from T (suc s) h1 h2 = grind (arith, nat_tests)
-
--- all slots of a new grid are there
-pub slots_new : (g : Points) → g.units ≡ replicate (g.edges.periods * g.slots) (pos 0) → (v t : ℕ) → v < g.slots → 1 ≤ t → t ≤ g.edges.periods
-    → IsSome (point_of g (endogenous v) (pos t))
-slots_new g h v t hv h1 h2 =
-    let inside : is_inside g.edges.periods (pos t) ≡ true = inside_from g.edges.periods t h1 h2 in
-    let below : nat_lt v g.slots ≡ true = grind (arith, nat_tests) in
-    let long : length g.units ≡ g.edges.periods * g.slots = ap (λ (xs : List ℤ). length xs) h ∙ length-replicate (g.edges.periods * g.slots) (pos 0) in
-    let within : slot_place g.slots t v < length g.units = subst (λ (n : ℕ). slot_place g.slots t v < n) (sym long) (place_within g.edges.periods g.slots t v h1 h2 hv) in
-    let got : slice_get g.units (slot_place g.slots t v) ≡ Some (get_or g.units (slot_place g.slots t v) (pos 0)) = slice_get-get_or g.units (slot_place g.slots t v) (pos 0) within in
-    rw (inside, below, got) refl
-
--- a value outside the horizon
-pub edge_there : (b : Edges) (v : ℕ) (t : ℤ) → is_near b.periods t ≡ true → is_inside b.periods t ≡ false → v * 49 + outside_to b.periods t < length b.endogenous
-    → IsSome (edge_of b (endogenous v) t)
-edge_there b v t near out within = elim ((slice_get_cases b.endogenous (v * 49 + outside_to b.periods t)).1) [
-  | inl h ↦ rw (near, out, h.2) refl
-  | inr h ↦ absurd (omega (arith, within, h.0))
-]
+-- a slot inside the horizon has a number
+pub slot_there : (g : Points) (v : ℕ) (t : ℤ) → IsFilled g → is_inside g.edges.periods t ≡ true → v < g.slots → IsSome (point_of g (endogenous v) t)
+slot_there g v (pos zero) filled inside below = cc
+slot_there g v (negsuc k) filled inside below = cc
+slot_there g v (pos (suc s)) filled inside below =
+    let last : suc s ≤ g.edges.periods = grind (arith, nat_tests) in
+    let first : 1 ≤ suc s = omega arith in
+    filled v (suc s) below first last

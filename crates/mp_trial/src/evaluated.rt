@@ -8,11 +8,11 @@ ghost use Rattle.mp_eval.specs.Given.{IsGiven};
 ghost use Rattle.mp_eval.specs.Rows.{value_at};
 
 use crate::added::{Refused, is_within};
-use crate::frame::Frame;
 use crate::ready::Ready;
 use mp_base::{NoMemory, Steps};
 use mp_eval::{EvalFault, Kind, Scratch, period};
 use mp_graph::{Graph, NodeId, folded};
+use mp_path::Grid;
 use std::alloc::Global;
 use std::sync::ledger::Ledger;
 
@@ -24,14 +24,6 @@ const ROOTS: usize = 4_294_967_296;
 pub struct Answer<K: Kind> {
     pub values: Vec<K>,
     pub fault: Option<EvalFault>,
-}
-
-// Whether there is room for the nodes of a graph.
-fn has_room<K: Kind>(scratch: &Scratch<K>, graph: &Graph<'_>) -> bool
-    ensures { IsTrue result → (length graph.now.terms ≤ length scratch.now.marks.items) × (length graph.now.terms ≤ length scratch.now.sizes.items) × (length graph.now.terms ≤ length scratch.now.values.items) }
-{
-    let nodes = graph.nodes();
-    nodes <= scratch.marks.len() && nodes <= scratch.sizes.len() && nodes <= scratch.values.len()
 }
 
 /// Whether a root can be evaluated in a period. The rows are as many as the nodes of the graph, and are written over.
@@ -55,7 +47,7 @@ fn is_ready(
 }
 
 /// Whether each of these roots can be evaluated in a period.
-pub fn are_ready(
+fn are_ready(
     alloc: Global,
     graph: &Graph<'_>,
     roots: &[NodeId],
@@ -72,64 +64,6 @@ pub fn are_ready(
         }
     }
     Ok(true)
-}
-
-/// What `period` gives for these roots.
-fn period_at<K: Kind, L: Ledger>(
-    graph: &Graph<'_>,
-    roots: &[NodeId],
-    ready: &Ready<'_>,
-    scratch: &mut Scratch<K>,
-    steps: &mut Steps<L>,
-) -> Result<(), EvalFault>
-    requires period { ready.now.period < 2 ^ 30 }
-    requires horizon { ready.now.frame.now.edges.periods < 2 ^ 30 }
-    requires marks_room { length graph.now.terms ≤ length scratch.old.marks.items }
-    requires sizes_room { length graph.now.terms ≤ length scratch.old.sizes.items }
-    requires values_room { length graph.now.terms ≤ length scratch.old.values.items }
-    requires few { length roots.now < 2 ^ 32 }
-    requires within { EachIndex roots.now (λ j. slice_index roots.now j < length graph.now.terms) }
-    requires given { EachIndex roots.now (λ j. IsGiven (cell_at (cells_of ready.now.frame.now) (pos ready.now.period)) (term_at graph.now.terms (slice_index roots.now j))) }
-    requires small { EachIndex roots.now (λ j. size (term_at graph.now.terms (slice_index roots.now j)) < 2 ^ 32) }
-    ensures valued { IsOk result → EachIndex roots.now (λ j. IsOk (value_at scratch.new.values.items (slice_index roots.now j))) }
-    ensures valued_before { IfErr result (λ f. (j : ℕ) → j + 1 < f.root → IsOk (value_at scratch.new.values.items (slice_index roots.now j))) }
-    ensures marks_room { length scratch.new.marks.items ≡ length scratch.old.marks.items }
-    ensures sizes_room { length scratch.new.sizes.items ≡ length scratch.old.sizes.items }
-    ensures values_room { length scratch.new.values.items ≡ length scratch.old.values.items }
-{
-    period(
-        graph,
-        roots,
-        ready.frame.grid(),
-        ready.period,
-        scratch,
-        steps,
-    )
-}
-
-/// What `period` gives for these roots, if it can be asked; it is asked so many times before.
-pub fn evaluated<K: Kind, L: Ledger>(
-    alloc: Global,
-    graph: &Graph<'_>,
-    roots: &[NodeId],
-    ready: &Ready<'_>,
-    before: u32,
-    scratch: &mut Scratch<K>,
-    steps: &mut Steps<L>,
-) -> Result<Result<(), EvalFault>, Refused>
-    ensures valued { IfOk result (λ r. IsOk r → EachIndex roots.now (λ j. IsOk (value_at scratch.new.values.items (slice_index roots.now j)))) }
-    ensures valued_before { IfOk result (λ r. IfErr r (λ f. (j : ℕ) → j + 1 < f.root → IsOk (value_at scratch.new.values.items (slice_index roots.now j)))) }
-{
-    if !ready.is_early() || roots.len() >= ROOTS || !has_room(scratch, graph) {
-        return Err(Refused::NotLawful);
-    }
-    if !are_ready(alloc, graph, roots, ready)? {
-        return Err(Refused::NotLawful);
-    }
-    'turns: for _ in 0..before {
-        let _ = period_at(graph, roots, ready, scratch, steps);
-    }
-    Ok(period_at(graph, roots, ready, scratch, steps))
 }
 
 /// The values of the first so many roots.
@@ -150,16 +84,50 @@ fn values_of<K: Kind>(
     Ok(values)
 }
 
-/// The values of these roots in a period and the first fault, if they can be asked.
+/// What `period` gives for these roots after so many turns.
+fn evaluated<K: Kind, L: Ledger>(
+    graph: &Graph<'_>,
+    roots: &[NodeId],
+    grid: &Grid,
+    t: u32,
+    turns: u32,
+    scratch: &mut Scratch<K>,
+    steps: &mut Steps<L>,
+) -> Result<(), EvalFault>
+    requires period { t < 2 ^ 30 }
+    requires horizon { grid.now.edges.periods < 2 ^ 30 }
+    requires marks_room { length graph.now.terms ≤ length scratch.old.marks.items }
+    requires sizes_room { length graph.now.terms ≤ length scratch.old.sizes.items }
+    requires values_room { length graph.now.terms ≤ length scratch.old.values.items }
+    requires few { length roots.now < 2 ^ 32 }
+    requires within { EachIndex roots.now (λ j. slice_index roots.now j < length graph.now.terms) }
+    requires given { EachIndex roots.now (λ j. IsGiven (cell_at (cells_of grid.now) (pos t)) (term_at graph.now.terms (slice_index roots.now j))) }
+    requires small { EachIndex roots.now (λ j. size (term_at graph.now.terms (slice_index roots.now j)) < 2 ^ 32) }
+    ensures valued { IsOk result → EachIndex roots.now (λ j. IsOk (value_at scratch.new.values.items (slice_index roots.now j))) }
+    ensures valued_before { IfErr result (λ f. (j : ℕ) → j + 1 < f.root → IsOk (value_at scratch.new.values.items (slice_index roots.now j))) }
+{
+    'turns: for _ in 0..turns {
+        let _ = period(graph, roots, grid, t, scratch, steps);
+    }
+    period(graph, roots, grid, t, scratch, steps)
+}
+
+/// The values of these roots in a period and the first fault, after so many turns, if they can be asked.
 pub fn answered<K: Kind, L: Ledger>(
     alloc: Global,
     graph: &Graph<'_>,
     roots: &[NodeId],
     ready: &Ready<'_>,
+    turns: u32,
     steps: &mut Steps<L>,
 ) -> Result<Answer<K>, Refused> {
+    let early = ready.is_early() && roots.len() < ROOTS;
+    if !early || !are_ready(alloc, graph, roots, ready)? {
+        return Err(Refused::NotLawful);
+    }
     let mut scratch = Scratch::reserve(alloc, graph.nodes())?;
-    let (count, fault) = match evaluated(alloc, graph, roots, ready, 0, &mut scratch, steps)? {
+    let (grid, t) = (ready.frame.grid(), ready.period);
+    let (count, fault) = match evaluated(graph, roots, grid, t, turns, &mut scratch, steps) {
         Ok(()) => (roots.len(), None),
         Err(fault) => ((fault.root as usize).saturating_sub(1), Some(fault)),
     };

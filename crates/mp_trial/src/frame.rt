@@ -1,10 +1,9 @@
 // A grid that can be asked what it has.
-ghost use Rattle.std.specs.Prelude.{◌≡◌, ◌+◌, ◌*◌, ◌≤◌, ◌<◌, ◌^◌, ◌≤ℤ◌, pos, negsuc, false, IsSome, IsTrue, IfOk};
-ghost use Rattle.mp_expr.specs.Shown.{place_of, variable_of};
+ghost use Rattle.std.specs.Prelude.{◌≡◌, ◌≤◌, ◌<◌, ◌^◌, pos, true, IsSome, IsTrue, IfOk};
+ghost use Rattle.mp_expr.specs.Shown.{variable_of};
 ghost use Rattle.mp_semantics.specs.Solves.{is_inside, is_near};
 ghost use Rattle.mp_walk.specs.Cells.{cell_at};
-ghost use Rattle.mp_path.specs.Edges.{edge_of, periods_to, outside_to};
-ghost use Rattle.mp_path.specs.Points.{cells_of, point_of};
+ghost use Rattle.mp_path.specs.Points.{cells_of, point_of, IsFilled};
 ghost use Rattle.mp_graph.specs.Op.{leaf_of};
 
 use mp_base::NoMemory;
@@ -16,7 +15,7 @@ use mp_path::{Boundary, Grid};
 use std::alloc::Global;
 use std::marker::Model;
 
-/// A grid, and how many values stand in its lists.
+/// A grid, and for how many names it has values.
 #[derive(Drop)]
 pub struct Frame {
     grid: Grid,
@@ -37,7 +36,7 @@ impl Model for Frame {
 
     ghost view = { λ f. f.grid };
 
-    ghost invariant = { λ f. (f.slots ≡ f.grid.slots) × IsFull f.grid f.parameters f.endogenous f.exogenous };
+    ghost invariant = { λ f. (f.slots ≡ f.grid.slots) × IsFull f.grid.edges f.parameters f.endogenous f.exogenous };
 }
 
 impl Frame {
@@ -53,8 +52,9 @@ impl Frame {
         ensures periods { IfOk result (λ f. f.edges.periods ≡ periods) }
         ensures slots { IfOk result (λ f. f.slots ≡ slots) }
     {
-        let (parameter_count, endogenous_count) = (parameters.len(), endogenous.len());
-        let exogenous_count = exogenous.len();
+        let parameter_count = parameters.len();
+        let endogenous_count = endogenous.len() / 49;
+        let exogenous_count = exogenous.len() / (periods as usize + 49);
         let boundary = Boundary::new(periods, parameters, endogenous, exogenous);
         let grid = Grid::with_shape(alloc, periods, slots, &boundary)?;
         Ok(Frame {
@@ -102,31 +102,28 @@ impl Frame {
         ensures { IsTrue result → IsSome (point_of self.now (variable_of v) t) }
     {
         match v {
-            VarId::Endo(n) if self.is_inside(t) => n >= 1 && n <= self.slots,
-            VarId::Endo(n) => self.has_endogenous(t, n),
-            VarId::Exo(n) => self.has_exogenous(t, n),
+            VarId::Endo(n) if self.is_inside(t) => self.has_slot(t, n),
+            VarId::Endo(n) => n >= 1 && n as usize <= self.endogenous && self.is_near(t),
+            VarId::Exo(n) => n >= 1 && n as usize <= self.exogenous && self.is_near(t),
         }
     }
 
-    #[tactic(auto, using(crate::proofs::Slots::edge_there))]
-    fn has_endogenous(&self, t: i32, n: u32) -> bool
-        requires { is_inside self.now.edges.periods t ≡ false }
-        ensures { IsTrue result → IsSome (edge_of self.now.edges (variable_of (VarId.Endo n)) t) }
+    // Whether a variable has a slot.
+    #[tactic(auto, using(crate::proofs::Slots::slot_there))]
+    fn has_slot(&self, t: i32, n: u32) -> bool
+        requires filled { IsFilled self.now }
+        requires inside { is_inside self.now.edges.periods t ≡ true }
+        ensures { IsTrue result → IsSome (point_of self.now (variable_of (VarId.Endo n)) t) }
     {
-        self.is_near(t) && n >= 1 && place(n, 49, self.outside_to(t)) < self.endogenous as u128
-    }
-
-    fn has_exogenous(&self, t: i32, n: u32) -> bool
-        ensures { IsTrue result → IsSome (edge_of self.now.edges (variable_of (VarId.Exo n)) t) }
-    {
-        let width = self.grid.periods() as u64 + 49;
-        self.is_near(t) && n >= 1 && place(n, width, periods_to(t)) < self.exogenous as u128
+        n >= 1 && n <= self.slots
     }
 
     fn is_inside(&self, t: i32) -> bool
-        ensures { result ≡ is_inside self.now.edges.periods t }
+        ensures value { result ≡ is_inside self.now.edges.periods t }
+        ensures filled { IsFilled self.now }
     {
-        t >= 1 && t as i64 <= self.grid.periods() as i64
+        let periods = self.grid.periods();
+        t >= 1 && t as i64 <= periods as i64
     }
 
     fn is_near(&self, t: i32) -> bool
@@ -134,33 +131,4 @@ impl Frame {
     {
         t >= -24 && t as i64 <= self.grid.periods() as i64 + 24
     }
-
-    // How many periods stand outside the horizon from -24 on before a period.
-    fn outside_to(&self, t: i32) -> u64
-        requires { negsuc 23 ≤ℤ t }
-        ensures { result ≡ outside_to self.now.edges.periods t }
-    {
-        let all = periods_to(t);
-        if all <= 24 {
-            all
-        } else {
-            all.saturating_sub(self.grid.periods() as u64)
-        }
-    }
-}
-
-// How many periods stand from -24 on before a period.
-fn periods_to(t: i32) -> u64
-    requires { negsuc 23 ≤ℤ t }
-    ensures { result ≡ periods_to t }
-{
-    (t as i64 + 24) as u64
-}
-
-// The place of a value of the variable `n`, of `width` values each.
-fn place(n: u32, width: u64, before: u64) -> u128
-    requires { 1 ≤ n }
-    ensures { result ≡ place_of n * width + before }
-{
-    (n - 1) as u128 * width as u128 + before as u128
 }
