@@ -10,7 +10,7 @@ ghost use Rattle.mp_decl.specs.Walks.{Finds};
 
 use crate::fault::DeclFault;
 use crate::known::{Known, wrong};
-use crate::parts::{equation_count, items_of};
+use crate::parts::equation_count;
 use crate::shared::first_shared;
 use crate::values::unvalued;
 use crate::walk::walk;
@@ -91,10 +91,9 @@ fn nameless(at: u32) -> Named<'static>
 fn test_names(alloc: Global, statements: &[Statement], end: u32) -> Result<(), DeclFault>
     ensures { Finds result (gap_fault end (first_shared (equation_names (equations_of (map statement_of statements.now))))) }
 {
-    match first_shared(alloc, statements) {
-        Ok(Some(name)) => Err(wrong(DeclKind::RegimeGap, &Named { name, at: end })),
-        Ok(None) => Ok(()),
-        Err(_) => Err(DeclFault::NoMemory),
+    match first_shared(alloc, statements)? {
+        Some(name) => Err(wrong(DeclKind::RegimeGap, &Named { name, at: end })),
+        None => Ok(()),
     }
 }
 
@@ -108,10 +107,9 @@ fn test_values<'t>(
     ensures { Finds result (value_fault end (unvalued_in (map statement_of statements.now) known.now.names.parameters)) }
 {
     let parameters = known.names.of_kind(NameKind::Parameter);
-    match unvalued(alloc, statements, parameters) {
-        Ok(Some(name)) => Err(wrong(DeclKind::NoValue, &Named { name, at: end })),
-        Ok(None) => Ok(()),
-        Err(_) => Err(DeclFault::NoMemory),
+    match unvalued(alloc, statements, parameters)? {
+        Some(name) => Err(wrong(DeclKind::NoValue, &Named { name, at: end })),
+        None => Ok(()),
     }
 }
 
@@ -121,7 +119,7 @@ fn are_as_many(statements: &[Statement], count: u32) -> bool
 {
     let mut left = count as usize;
     'turns: for statement in statements {
-        let held = equation_count(items_of(statement));
+        let held = equation_count(statement.items());
         if held > left {
             return false;
         }

@@ -1,22 +1,10 @@
-// What a statement holds.
+// Equations among the items of a model block.
 ghost use Rattle.std.specs.Prelude.{◌≡◌, map, length};
 ghost use Rattle.std.specs.List.{flat_map};
-ghost use Rattle.mp_statements.specs.Parts.{items_in, equations_in};
-ghost use Rattle.mp_file.specs.Shown.{item_of, statement_of};
+ghost use Rattle.mp_statements.specs.Parts.{equations_in};
+ghost use Rattle.mp_file.specs.Shown.{item_of};
 
-use mp_file::{Item, Statement};
-
-// The items that a statement holds.
-pub(crate) fn items_of<'a, 't>(statement: &'a Statement<'t>) -> &'a [Item<'t>]
-    ensures { map item_of result.now ≡ items_in (statement_of statement.now) }
-{
-    match statement {
-        Statement::Declares { .. } => &[],
-        Statement::Assigns { .. } => &[],
-        Statement::Model { items, .. } => items.as_slice(),
-        Statement::Notes { .. } => &[],
-    }
-}
+use mp_file::Item;
 
 // How many of these items are equations.
 pub(crate) fn equation_count(items: &[Item]) -> usize

@@ -5,8 +5,6 @@ ghost use Rattle.mp_statements.specs.Parts.{equations_in, equations_of};
 ghost use Rattle.mp_file.specs.Shown.{item_of, statement_of};
 ghost use Rattle.mp_declared.specs.Declared.{equation_names, first_shared};
 
-use crate::parts::items_of;
-use crate::tags::equation_name;
 use mp_base::NoMemory;
 use mp_file::{Item, Statement};
 use mp_names::NameList;
@@ -34,7 +32,7 @@ fn add_all_names<'t>(
     ensures { OnOk result (map (λ n. n.now) names.new.items ≡ map (λ n. n.now) names.old.items ++ equation_names (equations_of (map statement_of statements.now))) }
 {
     'turns: for statement in statements {
-        add_names(items_of(statement), names)?;
+        add_names(statement.items(), names)?;
     }
     Ok(())
 }
@@ -56,13 +54,11 @@ fn add_name<'t>(item: &Item<'t>, names: &mut Vec<&'t [u8]>) -> Result<(), NoMemo
     let Item::Equates { equation } = item else {
         return Ok(());
     };
-    let Some(name) = equation_name(equation) else {
+    let Some(name) = equation.name() else {
         return Ok(());
     };
-    match names.push(name) {
-        Ok(()) => Ok(()),
-        Err(_) => Err(NoMemory),
-    }
+    names.push(name)?;
+    Ok(())
 }
 
 // The first of these names that stands again further on. From the last name to the first, each that stands further on is

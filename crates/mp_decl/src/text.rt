@@ -15,7 +15,6 @@ ghost use Rattle.mp_decl.specs.Exponents.{Collects};
 use crate::fault::DeclFault;
 use crate::file::declared_names;
 use crate::known::wrong;
-use crate::parts::items_of;
 use mp_base::{DataKind, DataRefusal, DeclKind, Reduced};
 use mp_file::{File, Named, Statement};
 use mp_fold::{Exponent, ExponentFault, FoldFault, add_exponents, assign_values, lowest_terms};
@@ -139,9 +138,7 @@ fn values_of<'t>(
     ensures exponents { IfOk result (λ x. all_exponents x.0 (items_of (map statement_of statements.now)) ≡ Ok x.1.items) }
     ensures refused { IfErr result (λ e. Tells e (values_told end (map statement_of statements.now))) }
 {
-    let Ok(mut values) = Table::of_parameters(alloc, names) else {
-        return Err(DeclFault::NoMemory);
-    };
+    let mut values = Table::of_parameters(alloc, names)?;
     match assign(alloc, &mut values, statements, end) {
         Ok(exponents) => Ok((values, exponents)),
         Err(fault) => {
@@ -183,7 +180,7 @@ fn exponents<'t>(
 {
     let mut found = Vec::new(alloc);
     'turns: for statement in statements {
-        if let Err(fault) = add_exponents(table, items_of(statement), &mut found) {
+        if let Err(fault) = add_exponents(table, statement.items(), &mut found) {
             return Err(fault);
         }
     }

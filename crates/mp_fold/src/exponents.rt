@@ -14,6 +14,7 @@ use crate::values::value_of;
 use mp_file::{Equation, Expression, Further, Item};
 use mp_names::Table;
 use mp_syntax::Sign;
+use std::alloc::AllocFailed;
 use std::marker::Model;
 use thiserror::Error;
 
@@ -62,6 +63,17 @@ pub enum ExponentFault<'t> {
     NoMemory,
 }
 
+impl<'t, T: Drop> From<AllocFailed<T>> for ExponentFault<'t> {
+    ghost use Rattle.std.specs.Prelude.{◌≡◌};
+    ghost use Rattle.mp_fold.specs.declared.exponents.ExponentFault.TheVariants.{NoMemory};
+
+    ghost from_gives = { λ _ e. e ≡ NoMemory };
+
+    fn from(_: AllocFailed<T>) -> Self {
+        ExponentFault::NoMemory
+    }
+}
+
 /// Nothing, or why there is no exponent.
 type Tested<'t> = Result<(), ExponentFault<'t>>;
 
@@ -76,17 +88,8 @@ fn add_exponent<'t>(
     ensures { Adds result found.old.items found.new.items (and_then (folded table.now (expr_of written.now)) (λ y. and_then (exponent_at limited at sign y) (λ k. Ok (k ∷ [])))) }
 {
     match near_exponent(at, sign, value_of(table, written)) {
-        Ok(k) => push(found, Exponent::of(k)),
+        Ok(k) => Ok(found.push(Exponent::of(k))?),
         Err(fault) => Err(ExponentFault::Refused(fault)),
-    }
-}
-
-fn push<'t>(found: &mut Vec<Exponent>, exponent: Exponent) -> Tested<'t>
-    ensures { Adds result found.old.items found.new.items (Ok (exponent ∷ [])) }
-{
-    match found.push(exponent) {
-        Ok(()) => Ok(()),
-        Err(_) => Err(ExponentFault::NoMemory),
     }
 }
 

@@ -4,9 +4,9 @@
 mod choice;
 pub mod fault;
 mod item;
+mod listed;
 mod name;
 mod parser;
-mod past;
 mod repeated;
 mod statement;
 mod tag;

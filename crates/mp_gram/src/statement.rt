@@ -1,8 +1,10 @@
 // Statements.
 ghost use Rattle.std.specs.Prelude.{◌≡◌, ◌<◌, ◌≤◌, length, map, IfOk};
-ghost use Rattle.mp_file.specs.Shown.{statement_of};
+ghost use Rattle.mp_tokens.specs.declared.terminal.Terminal.TheVariants as t;
+ghost use Rattle.mp_file.specs.Shown.{item_of, statement_of};
 ghost use Rattle.mp_format.specs.Format.{many, read};
-ghost use Rattle.mp_grammar.specs.Productions.{declared, declares, assigns, model, noted, notes, statement};
+ghost use Rattle.mp_format.specs.Notation.{of, line, ◌◂◌};
+ghost use Rattle.mp_grammar.specs.Productions.{declared, declares, assigns, item, model, noted, notes, statement};
 ghost use Rattle.mp_grammar.specs.Levels.{expression};
 ghost use Rattle.mp_gram_expr.specs.Shown.{toks};
 ghost use Rattle.mp_gram_expr.specs.Gives.{Gives};
@@ -10,10 +12,9 @@ ghost use Rattle.mp_gram_expr.specs.Gives.{Gives};
 use crate::choice::choices_of;
 use crate::item::items_of;
 use crate::name::{decl_of, decls_of, name_of, names_of};
-use crate::past::past;
 use crate::repeated::{Repeated, all_of};
-use mp_file::Statement;
-use mp_gram_expr::{Rest, Wrong, expect, expr_of, wrong_at};
+use mp_file::{Item, Statement};
+use mp_gram_expr::{Rest, Wrong, expect, expr_of, past, wrong_at};
 use mp_statements::{Command, NameKind};
 use mp_tokens::Terminal;
 use sqlite_items::Items;
@@ -30,10 +31,9 @@ fn declared_of<'a, 't>(
     ensures fewer { IfOk result (λ x. length x.1.now < length tokens.now) }
 {
     let (first, rest) = decl_of(alloc, tokens)?;
-    let mut names = Items::new(alloc);
-    names.push(first)?;
+    let names = Items::from_slice(alloc, &[first])?;
     let (names, rest) = decls_of(alloc, names, rest)?;
-    let (_, rest) = expect(rest, Terminal::Semicolon)?;
+    let (names, _, rest) = past(names, rest, Terminal::Semicolon)?;
     Ok((Statement::Declares { kind, names }, rest))
 }
 
@@ -74,6 +74,22 @@ fn assigns_of<'a, 't>(
     Ok((Statement::Assigns { name, value }, rest))
 }
 
+// The items of a model block, and its end.
+#[tactic(auto, unfolding(mp_format::specs::Format::read))]
+fn block_of<'a, 't>(
+    alloc: Global,
+    tokens: Rest<'a, 't>,
+) -> Result<(Items<Item<'t>>, Rest<'a, 't>), Wrong<'a, 't>>
+    ensures value { Gives (λ x. (map item_of x.0, toks x.1.now)) result
+        (read (many (item (expression 500)) ◂ of t.End ◂ line t.Semicolon) (toks tokens.now)) }
+    ensures fewer { IfOk result (λ x. length x.1.now < length tokens.now) }
+{
+    let (items, rest) = items_of(alloc, tokens)?;
+    let (items, _, rest) = past(items, rest, Terminal::End)?;
+    let (items, _, rest) = past(items, rest, Terminal::Semicolon)?;
+    Ok((items, rest))
+}
+
 // A model block.
 #[tactic(auto, unfolding(mp_format::specs::Format::read, mp_grammar::specs::Productions::model))]
 fn model_of<'a, 't>(
@@ -86,10 +102,8 @@ fn model_of<'a, 't>(
     let (word, rest) = expect(tokens, Terminal::Model)?;
     let at = word.at;
     let (choices, rest) = choices_of(alloc, rest)?;
-    let (_, rest) = expect(rest, Terminal::Semicolon)?;
-    let (items, rest) = items_of(alloc, rest)?;
-    let (_, rest) = expect(rest, Terminal::End)?;
-    let (_, rest) = expect(rest, Terminal::Semicolon)?;
+    let (choices, _, rest) = past(choices, rest, Terminal::Semicolon)?;
+    let (items, rest) = block_of(alloc, rest)?;
     Ok((Statement::Model { at, choices, items }, rest))
 }
 

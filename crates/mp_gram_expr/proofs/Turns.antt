@@ -6,6 +6,9 @@ use Rattle.mp_format.specs.Reading.{Read, ◌>>=◌}
 use Rattle.mp_format.specs.Format.{Format, opt, many, read, meets, first, empty, with_front}
 use Rattle.mp_format.proofs.Turns.{many_end, many_next, many_fails}
 use Rattle.mp_expressions.specs.Expressions.{times, plus}
+use Rattle.mp_gram_expr.specs.declared.level.Level.{Level}
+use Rattle.mp_gram_expr.specs.declared.level.Level.TheVariants as l
+use Rattle.mp_gram_expr.specs.Levels.{further_at}
 use Rattle.mp_gram_expr.specs.Gives.{Fails}
 use Rattle.mp_gram_expr.specs.declared.rest.Wrong.{Wrong}
 use Rattle.mp_gram_expr.specs.declared.rest.Wrong.TheVariants as w
@@ -31,13 +34,10 @@ pub turn-fails : {X : Type 0} (f : Format X) (front : List X) (ts : List Tok) (e
 turn-fails f front ts e r k is h fails =
     Fails-whole e (read f ts) r (λ left wrong. sym is ∙ many_fails f front ts left k h wrong) fails
 
-pub times_full : (a : Format Expr) → empty (times a) ≡ false
-unfolding empty times
-times_full a = refl
-
-pub plus_full : (a : Format Expr) → empty (plus a) ≡ false
-unfolding empty plus
-plus_full a = refl
+pub further_full : (level : Level) (a : Format Expr) → empty (further_at level a) ≡ false
+unfolding empty times plus
+further_full l.Sum a = refl
+further_full l.Product a = refl
 
 pub opt_none : {X : Type 0} (f : Format X) (ts : List Tok) → meets (first f) ts ≡ false → read (opt f) ts ≡ Ok (None, ts)
 unfolding read

@@ -4,13 +4,13 @@ ghost use Rattle.mp_syntax.specs.Syntax as s;
 ghost use Rattle.mp_file.specs.Shown.{shift_of, named_of, expr_of};
 ghost use Rattle.mp_format.specs.Format.{opt, via, read, meets, first};
 ghost use Rattle.mp_expressions.specs.Productions.{sign_format};
-ghost use Rattle.mp_expressions.specs.Expressions.{shift, fenced, shift_part, flat_atom, times_format, plus_format};
+ghost use Rattle.mp_expressions.specs.Expressions.{shift, fenced, shift_part, flat_atom};
 ghost use Rattle.mp_gram_expr.specs.Shown.{toks};
 ghost use Rattle.mp_gram_expr.specs.Gives.{Gives};
 
 use crate::rest::{Rest, Wrong, expect, meets, wrong_at};
 use mp_file::{Expression, Named, Shift};
-use mp_syntax::{Operator, Sign};
+use mp_syntax::Sign;
 use mp_tokens::Terminal;
 use std::alloc::Global;
 
@@ -122,44 +122,6 @@ pub(crate) fn flat_atom_of<'a, 't>(
             let name = Named { name: t.text, at };
             return Ok((Expression::Variable { name }, rest));
         }
-        _ => {}
-    }
-    wrong_at(tokens)
-}
-
-// The operator of a product, and its place.
-#[tactic(auto, unfolding(mp_format::specs::Format::read, mp_format::specs::Format::first, mp_format::specs::Format::empty, mp_format::specs::Format::tok_at))]
-pub(crate) fn times_of<'a, 't>(
-    tokens: Rest<'a, 't>,
-) -> Result<((Operator, u32), Rest<'a, 't>), Wrong<'a, 't>>
-    ensures value { Gives (λ x. (x.0, toks x.1.now)) result (read times_format (toks tokens.now)) }
-    ensures fewer { IfOk result (λ x. length x.1.now < length tokens.now) }
-{
-    let Some((t, rest)) = tokens.split_first() else {
-        return wrong_at(tokens);
-    };
-    match t.terminal() {
-        Terminal::Star => return Ok(((Operator::Times, t.at), rest)),
-        Terminal::Slash => return Ok(((Operator::Over, t.at), rest)),
-        _ => {}
-    }
-    wrong_at(tokens)
-}
-
-// The operator of a sum, and its place.
-#[tactic(auto, unfolding(mp_format::specs::Format::read, mp_format::specs::Format::first, mp_format::specs::Format::empty, mp_format::specs::Format::tok_at))]
-pub(crate) fn plus_of<'a, 't>(
-    tokens: Rest<'a, 't>,
-) -> Result<((Operator, u32), Rest<'a, 't>), Wrong<'a, 't>>
-    ensures value { Gives (λ x. (x.0, toks x.1.now)) result (read plus_format (toks tokens.now)) }
-    ensures fewer { IfOk result (λ x. length x.1.now < length tokens.now) }
-{
-    let Some((t, rest)) = tokens.split_first() else {
-        return wrong_at(tokens);
-    };
-    match t.terminal() {
-        Terminal::Plus => return Ok(((Operator::Plus, t.at), rest)),
-        Terminal::Minus => return Ok(((Operator::Minus, t.at), rest)),
         _ => {}
     }
     wrong_at(tokens)

@@ -7,4 +7,4 @@ use Rattle.mp_decl.proofs.shared.add_all_names.Goals as goal
 
 pub turns-preserved : goal.turns-preserved
 turns-preserved c =
-    names_turn (λ x. item_names (items_in (statement_of x))) (λ xs. equation_names (equations_of (map statement_of xs))) (λ x xs. file_names-more (statement_of x) (map statement_of xs)) c.args.statements.now c.turns.statement-index c.statement-item.result c.statement-item.result (lent c.turns.names.items) _ c.turns-test.true c.statement-item.is c.turns.invariant (lent c.add_names.new.names.items) (rw c.items_of.ensures at c.in_ok-add_names.ensures)
+    names_turn (λ x. item_names (items_in (statement_of x))) (λ xs. equation_names (equations_of (map statement_of xs))) (λ x xs. file_names-more (statement_of x) (map statement_of xs)) c.args.statements.now c.turns.statement-index c.statement-item.result c.statement-item.result (lent c.turns.names.items) _ c.turns-test.true c.statement-item.is c.turns.invariant (lent c.add_names.new.names.items) (rw c.items.ensures at c.in_ok-add_names.ensures)

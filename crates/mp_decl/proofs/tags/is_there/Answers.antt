@@ -6,6 +6,6 @@ use Rattle.mp_decl.proofs.tags.is_there.Goals as goal
 
 pub returns : goal.returns
 returns c =
-    c.is_some.ensures ∙ is_some-map _ c.tag_named.result
-    ∙ ap is_some c.tag_named.ensures
+    c.is_some.ensures ∙ is_some-map _ c.named.result
+    ∙ ap is_some c.named.ensures
     ∙ is_some-find (is_tag c.args.name.now) (map tag_of c.args.tags.now)
