@@ -2,12 +2,13 @@
 ghost use Rattle.std.specs.Prelude.{◌<◌, ◌≤◌, length, IfOk};
 ghost use Rattle.mp_semantics.specs.Term.{Term};
 ghost use Rattle.mp_graph.specs.Shared.{term_at, Says, Keeps};
-ghost use Rattle.mp_graph.specs.Images.{HasImages};
+ghost use Rattle.mp_graph.specs.Images.{HasImages, over_images};
 ghost use Rattle.mp_graph.specs.Own.{AreOwn};
 ghost use Rattle.mp_graph.specs.Part.{IsPart};
 
 use crate::graph::Graph;
 use crate::node_id::NodeId;
+use crate::op::NodeOp;
 use mp_base::NoMemory;
 
 /// A rewriting of expressions, node by node: the image of a term follows from those of its operands.
@@ -57,4 +58,41 @@ pub fn rewritten<W: Rewrite>(
         images[id.index()] = image;
     }
     Ok(images[root.index()])
+}
+
+/// The node with the images of its kids, which stand at their places in the table, in place of them; a leaf stays. With it
+/// a rewriting says only what it makes of leaves.
+pub fn over_images<W: Rewrite>(
+    graph: &mut Graph<'_>,
+    id: NodeId,
+    images: &[NodeId],
+    rewrite: &W,
+) -> Result<NodeId, NoMemory>
+    requires within { id < length graph.old.terms }
+    requires table { id ≤ length images.now }
+    requires images { HasImages graph.old images.now id (W.image rewrite.now) }
+    ensures says { IfOk result (λ r. Says graph.new r (over_images (W.image rewrite.now) (term_at graph.old.terms id))) }
+    ensures kept { Keeps graph.old graph.new }
+{
+    let node = graph.node(id);
+    let op = node.op;
+    match op {
+        NodeOp::Leaf(_) => Ok(id),
+        NodeOp::Neg | NodeOp::Pow(_) => {
+            let a = images[node.kids[0].index()];
+            graph.intern(op, &[a])
+        }
+        NodeOp::Binary(_) => {
+            let a = images[node.kids[0].index()];
+            let b = images[node.kids[1].index()];
+            graph.intern(op, &[a, b])
+        }
+        NodeOp::Pick => {
+            let a = images[node.kids[0].index()];
+            let b = images[node.kids[1].index()];
+            let c = images[node.kids[2].index()];
+            let d = images[node.kids[3].index()];
+            graph.intern(op, &[a, b, c, d])
+        }
+    }
 }
