@@ -1,5 +1,5 @@
 // A pass that gives each node an image.
-ghost use Rattle.std.specs.Prelude.{◌<◌, ◌≤◌, length, IfOk};
+ghost use Rattle.std.specs.Prelude.{◌<◌, ◌≤◌, ℕ, length, slice_index, IfOk};
 ghost use Rattle.mp_semantics.specs.Term.{Term};
 ghost use Rattle.mp_graph.specs.Shared.{term_at, Says, Keeps};
 ghost use Rattle.mp_graph.specs.Images.{HasImages, over_images};
@@ -62,16 +62,11 @@ pub fn rewritten<W: Rewrite>(
 
 /// The node with the images of its kids, which stand at their places in the table, in place of them; a leaf stays. With it
 /// a rewriting says only what it makes of leaves.
-pub fn over_images<W: Rewrite>(
-    graph: &mut Graph<'_>,
-    id: NodeId,
-    images: &[NodeId],
-    rewrite: &W,
-) -> Result<NodeId, NoMemory>
+pub fn over_images(graph: &mut Graph<'_>, id: NodeId, images: &[NodeId]) -> Result<NodeId, NoMemory>
     requires within { id < length graph.old.terms }
     requires table { id ≤ length images.now }
-    requires images { HasImages graph.old images.now id (W.image rewrite.now) }
-    ensures says { IfOk result (λ r. Says graph.new r (over_images (W.image rewrite.now) (term_at graph.old.terms id))) }
+    requires images { (i : ℕ) → i < id → IsPart (term_at graph.old.terms i) (term_at graph.old.terms id) → slice_index images.now i < length graph.old.terms }
+    ensures says { (image : Term → Term) → HasImages graph.old images.now id image → IfOk result (λ r. Says graph.new r (over_images image (term_at graph.old.terms id))) }
     ensures kept { Keeps graph.old graph.new }
 {
     let node = graph.node(id);
