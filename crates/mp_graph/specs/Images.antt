@@ -1,7 +1,7 @@
 -- Tables by the numbers of nodes.
 use Rattle.std.specs.Prelude.{◌≡◌, ◌<◌, ◌⊎◌, ℕ, Bool, true, false, List, length, slice_index, slice_index_or, slice_get, Some}
 use Rattle.std.specs.List.{Contains}
-use Rattle.mp_semantics.specs.Term.{Term}
+use Rattle.mp_semantics.specs.Term.{Term, leaf, negative, binary, power_of, pick}
 use Rattle.mp_graph.specs.Shared.{Shared, term_at, Says}
 use Rattle.mp_graph.specs.Part.{IsPart, IsIn}
 use Rattle.mp_graph.specs.declared.images.Images.{Images}
@@ -10,6 +10,14 @@ use Rattle.mp_graph.specs.declared.images.Images.{Images}
 abbrev pub HasImages : Shared → List ℕ → ℕ → (Term → Term) → Type 0
 HasImages g table id image =
     (i : ℕ) → i < id → IsPart (term_at g.terms i) (term_at g.terms id) → Says g (slice_index table i) (image (term_at g.terms i))
+
+-- a term with the images of its operands in place of them; a leaf stays
+abbrev pub over_images : (Term → Term) → Term → Term
+over_images image (leaf l) = leaf l
+over_images image (negative a) = negative (image a)
+over_images image (binary o a b) = binary o (image a) (image b)
+over_images image (power_of a k) = power_of (image a) k
+over_images image (pick a b c d) = pick (image a) (image b) (image c) (image d)
 
 -- at the place of each operand of this number stands its row
 abbrev pub HasRows : {R : Type 0} → List Term → List R → ℕ → (Term → R → Type 0) → Type 0

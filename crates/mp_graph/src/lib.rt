@@ -21,5 +21,5 @@ pub use images::{Images, images_law};
 pub use node_id::NodeId;
 pub use op::{BinaryOp, LeafOp, NodeOp};
 pub use own::own_laws;
-pub use rewrite::{Rewrite, rewritten};
+pub use rewrite::{Rewrite, over_images, rewritten};
 pub use sizes::{all_counts, all_heights};

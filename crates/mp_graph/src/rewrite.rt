@@ -1,13 +1,14 @@
 // A pass that gives each node an image.
-ghost use Rattle.std.specs.Prelude.{◌<◌, ◌≤◌, length, IfOk};
+ghost use Rattle.std.specs.Prelude.{◌<◌, ◌≤◌, ℕ, length, slice_index, IfOk};
 ghost use Rattle.mp_semantics.specs.Term.{Term};
 ghost use Rattle.mp_graph.specs.Shared.{term_at, Says, Keeps};
-ghost use Rattle.mp_graph.specs.Images.{HasImages};
+ghost use Rattle.mp_graph.specs.Images.{HasImages, over_images};
 ghost use Rattle.mp_graph.specs.Own.{AreOwn};
 ghost use Rattle.mp_graph.specs.Part.{IsPart};
 
 use crate::graph::Graph;
 use crate::node_id::NodeId;
+use crate::op::NodeOp;
 use mp_base::NoMemory;
 
 /// A rewriting of expressions, node by node: the image of a term follows from those of its operands.
@@ -57,4 +58,36 @@ pub fn rewritten<W: Rewrite>(
         images[id.index()] = image;
     }
     Ok(images[root.index()])
+}
+
+/// The node with the images of its kids, which stand at their places in the table, in place of them; a leaf stays. With it
+/// a rewriting says only what it makes of leaves.
+pub fn over_images(graph: &mut Graph<'_>, id: NodeId, images: &[NodeId]) -> Result<NodeId, NoMemory>
+    requires within { id < length graph.old.terms }
+    requires table { id ≤ length images.now }
+    requires images { (i : ℕ) → i < id → IsPart (term_at graph.old.terms i) (term_at graph.old.terms id) → slice_index images.now i < length graph.old.terms }
+    ensures says { (image : Term → Term) → HasImages graph.old images.now id image → IfOk result (λ r. Says graph.new r (over_images image (term_at graph.old.terms id))) }
+    ensures kept { Keeps graph.old graph.new }
+{
+    let node = graph.node(id);
+    let op = node.op;
+    match op {
+        NodeOp::Leaf(_) => Ok(id),
+        NodeOp::Neg | NodeOp::Pow(_) => {
+            let a = images[node.kids[0].index()];
+            graph.intern(op, &[a])
+        }
+        NodeOp::Binary(_) => {
+            let a = images[node.kids[0].index()];
+            let b = images[node.kids[1].index()];
+            graph.intern(op, &[a, b])
+        }
+        NodeOp::Pick => {
+            let a = images[node.kids[0].index()];
+            let b = images[node.kids[1].index()];
+            let c = images[node.kids[2].index()];
+            let d = images[node.kids[3].index()];
+            graph.intern(op, &[a, b, c, d])
+        }
+    }
 }

@@ -5,4 +5,4 @@ pub mod model;
 pub mod parts;
 
 pub use model::Model;
-pub use parts::{Equation, Lent, Parameter, Parts};
+pub use parts::{Equation, Parameter, Parts};

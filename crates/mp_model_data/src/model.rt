@@ -1,10 +1,10 @@
 // A model, seen as its graph, parameters and equations.
-ghost use Rattle.std.specs.Prelude.{◌≡◌, ◌<◌, ◌≤◌, Some, length, map, option_map, slice_get};
+ghost use Rattle.std.specs.Prelude.{◌≡◌, ◌≤◌, length, map};
 ghost use Rattle.std.specs.List.{AllByRecursion};
 ghost use Rattle.mp_solutions.specs.Laws.{IsClosed};
 ghost use Rattle.mp_model_data.specs.Shown.{parameter_of, sides_of, model_data, IsWithin};
 
-use crate::parts::{Equation, Lent, Parameter, Parts};
+use crate::parts::{Equation, Parameter, Parts};
 use mp_graph::Graph;
 use mp_statements::NameKind;
 
@@ -148,22 +148,5 @@ impl<'t> Model<'t> {
     {
         self.graph.whole();
         self.graph.readable();
-    }
-
-    /// The equation at this place, from 0, lent with the graph.
-    pub fn equation(&self, place: usize) -> Lent<'_, 't>
-        requires { place < length self.now.equations }
-        ensures graph { result.graph.now ≡ self.now.graph }
-        ensures sides { slice_get self.now.equations place ≡ Some (record { name = option_map (λ n. n.now) result.name; left = result.left; right = result.right }) }
-        ensures left { result.left < length self.now.graph.terms }
-        ensures right { result.right < length self.now.graph.terms }
-    {
-        let equation = &self.equations[place];
-        Lent {
-            graph: &self.graph,
-            name: equation.name,
-            left: equation.left,
-            right: equation.right,
-        }
     }
 }

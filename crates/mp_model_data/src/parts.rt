@@ -18,15 +18,6 @@ pub struct Parameter<'t> {
     pub value: Frac,
 }
 
-/// An equation, lent with the graph in which its sides stand.
-#[derive(Clone, Copy)]
-pub struct Lent<'g, 't> {
-    pub graph: &'g Graph<'t>,
-    pub name: Option<&'t [u8]>,
-    pub left: NodeId,
-    pub right: NodeId,
-}
-
 /// A model taken apart, without its source.
 #[derive(Drop)]
 pub struct Parts<'t> {
