@@ -6,3 +6,4 @@ pub mod Sides
 pub mod Named
 pub mod Transformed
 pub mod Ahead
+pub mod StandIns

@@ -121,7 +121,7 @@ module _ (M : m.Model) where
     same_leaf (variable (exogenous v) k) h = refl
     same_leaf (steady_state v) h = refl
 
-    same_side : (e : Term) → AllLeaves (IsDeclaredLeaf M) e → short (stand_by fs) e ≡ short (stand_in_of M) e
+    pub same_side : (e : Term) → AllLeaves (IsDeclaredLeaf M) e → short (stand_by fs) e ≡ short (stand_in_of M) e
     same_side e h = with_equal_leaves (short_leaf (stand_by fs)) (short_leaf (stand_in_of M)) e (all_leaves (IsDeclaredLeaf M) (λ l. short_leaf (stand_by fs) l ≡ short_leaf (stand_in_of M) l) same_leaf e h)
 
     same_one : (e : m.Equation) → AllEquationLeaves (IsDeclaredLeaf M) e → short_equation (stand_by fs) e ≡ short_equation (stand_in_of M) e

@@ -5,21 +5,27 @@ use Rattle.std.specs.List as std
 use Rattle.std.specs.Str.{bytes_eq}
 use Rattle.std.proofs.lemmas.List.{length-append, length-map}
 use Rattle.mp_semantics.specs.Model as m
+use Rattle.mp_semantics.specs.Term.{Leaf, number, parameter, variable, endogenous, exogenous, steady_state, Term}
 use Rattle.mp_values.specs.Names.{Names}
 use Rattle.mp_names.specs.Named.{kind_in}
-use Rattle.mp_graph.specs.Shared.{Shared, Keeps}
+use Rattle.mp_graph.specs.Shared.{Shared, Keeps, term_at}
 use Rattle.mp_graph.proofs.Kept.{keeps-trans}
 use Rattle.mp_model_data.specs.Shown.{Held, Sides, IsWithin, equation_in, model_data, source_data}
 use Rattle.mp_solutions.specs.Auxiliaries.{Auxiliary, width, lengths, auxiliaries_of, auxiliary_name, stand_in_of}
-use Rattle.mp_solutions.specs.Transformed.{short_equation, transformed}
-use Rattle.mp_solutions.specs.Laws.{IsClosed, IsDistinct}
+use Rattle.mp_solutions.specs.Leaves.{AllLeaves, AllEquationLeaves}
+use Rattle.mp_solutions.specs.Transformed.{short, short_equation, auxiliary_equation, transformed}
+use Rattle.mp_solutions.specs.Laws.{IsClosed, IsDeclaredLeaf, IsDistinct}
 use Rattle.mp_solutions.proofs.Names.{names_distinct}
+use Rattle.mp_solutions.proofs.Lists.{each_both, each_left, map_each}
+use Rattle.mp_solutions.proofs.Leaves.{all_leaves}
 use Rattle.mp_solutions.proofs.Numbering.{each_auxiliary}
+use Rattle.mp_solutions.proofs.Shape.{transformed_closed}
+use Rattle.mp_solutions.proofs.Values.{declared_below}
 use Rattle.mp_shift.specs.declared.first.First.{First}
 use Rattle.mp_shift.specs.Called.{Called, call, AreOf, AreNew, with_names}
-use Rattle.mp_shift.specs.Equations.{own_equations, HasRoom, AreBuilt}
-use Rattle.mp_shift.specs.Stand.{stand_by, AreFirst}
-use Rattle.mp_shift.proofs.Sides.{own_equations_are, same_short, all_kept, all_within}
+use Rattle.mp_shift.specs.Equations.{own_equations, HasRoom, HasStandIns, AreBuilt}
+use Rattle.mp_shift.specs.Stand.{stand_by, ReadsName, ReadsNames, AreFirst}
+use Rattle.mp_shift.proofs.Sides.{own_equations_are, same_side, same_short, all_kept, all_within}
 use Rattle.mp_shift.proofs.Named.{name_in, distinct_places}
 
 names_called : (names : List (List ℕ)) (xs : List Auxiliary) → map name_in (map (call names) xs) ≡ map (auxiliary_name names) xs
@@ -73,6 +79,35 @@ module _ (h : Held) (xs : List Called) (of : AreOf (model_data h) xs) where
     free = subst (λ (l : List (List ℕ)). AllByRecursion (λ (x : Called). kind_in (record { endogenous = h.graph.names.endogenous; exogenous = h.graph.names.exogenous; parameters = l }) x.name ≡ None) xs) named of.free;
     distinct = subst IsDistinct (sym names_are) (names_distinct M (distinct_places h.graph.names.endogenous distinct));
   }
+
+  module _ (fs : List First) (first : AreFirst M fs) (closed : IsClosed M) where
+    named_there : (l : Leaf) → IsDeclaredLeaf (transformed M) l → ReadsName (h.graph.names.endogenous ++ map name_in xs) l
+    named_there (number m s) d = tt
+    named_there (parameter p) d = tt
+    named_there (variable (endogenous v) k) d =
+        let same = ap (λ (l : List (List ℕ)). length (h.graph.names.endogenous ++ l)) names_are in
+        omega (arith, declared_below (transformed M) v d, same)
+    named_there (variable (exogenous v) k) d = tt
+    named_there (steady_state v) d = tt
+
+    reads_there : (e : Term) → AllLeaves (IsDeclaredLeaf M) e → AllLeaves (IsDeclaredLeaf (transformed M)) (short (stand_in_of M) e) → ReadsNames (h.graph.names.endogenous ++ map name_in xs) (short (stand_by fs) e)
+    reads_there e own d =
+        subst (ReadsNames (h.graph.names.endogenous ++ map name_in xs)) (sym (same_side M fs first e own))
+        (all_leaves (IsDeclaredLeaf (transformed M)) (ReadsName (h.graph.names.endogenous ++ map name_in xs)) named_there (short (stand_in_of M) e) d)
+
+    -- the short forms of the source's equations read names that there are, since the transformed model is closed
+    pub stand_ins_are : AllByRecursion (HasStandIns (with_names xs h.graph.names).endogenous h.graph.terms fs) h.equations
+    stand_ins_are =
+        each_both
+        (λ x. AllEquationLeaves (IsDeclaredLeaf M) (equation_in h.graph.terms x))
+        (λ x. AllEquationLeaves (IsDeclaredLeaf (transformed M)) (short_equation (stand_in_of M) (equation_in h.graph.terms x)))
+        (HasStandIns (with_names xs h.graph.names).endogenous h.graph.terms fs)
+        (λ x own d. record { left = reads_there (term_at h.graph.terms x.left) own.0 d.0; right = reads_there (term_at h.graph.terms x.right) own.1 d.1 })
+        h.equations
+        (map_each (AllEquationLeaves (IsDeclaredLeaf M)) (equation_in h.graph.terms) h.equations closed)
+        (map_each (λ e. AllEquationLeaves (IsDeclaredLeaf (transformed M)) (short_equation (stand_in_of M) e)) (equation_in h.graph.terms) h.equations
+        (map_each (AllEquationLeaves (IsDeclaredLeaf (transformed M))) (short_equation (stand_in_of M)) M.equations
+        (each_left (AllEquationLeaves (IsDeclaredLeaf (transformed M))) (map (short_equation (stand_in_of M)) M.equations) (map (auxiliary_equation (stand_in_of M)) (auxiliaries_of M)) (transformed_closed M closed))))
 
   module _ (g new : Shared) (ps : List m.Parameter) (es all : List Sides) (n : ℕ) (fs : List First) (gi : g ≡ h.graph) (pi : ps ≡ h.parameters) (ei : es ≡ h.equations) (count : n ≡ width M) (b : AreBuilt g new es xs fs all) where
     abbrev built : Held

@@ -1,6 +1,8 @@
 -- Where the stand-ins of each variable begin, as code holds it.
 use Rattle.std.specs.Prelude.{◌≡◌, ℕ, zero, suc, ◌+◌, ◌<◌, List, length, slice_index_or}
+use Rattle.mp_semantics.specs.Term.{Leaf, number, parameter, variable, endogenous, exogenous, steady_state, Term}
 use Rattle.mp_semantics.specs.Model.{Model}
+use Rattle.mp_solutions.specs.Leaves.{AllLeaves}
 use Rattle.mp_solutions.specs.Auxiliaries.{Direction, lead, lag, width, auxiliaries, StandIns, stand_in_of}
 use Rattle.mp_shift.specs.declared.reach.Reach.{Reach}
 use Rattle.mp_shift.specs.Reach.{lengths_of}
@@ -28,3 +30,15 @@ pub record AreFirstFrom (start : ℕ) (rs : List Reach) (fs : List First) : Type
 pub record AreFirst (M : Model) (fs : List First) : Type 0 where
   pub count : length fs ≡ width M
   pub each : (v : ℕ) (d : Direction) (k : ℕ) → v < width M → stand_by fs v d k ≡ stand_in_of M v d k
+
+-- an endogenous variable that the leaf reads at a shift is one of these names
+abbrev pub ReadsName : List (List ℕ) → Leaf → Type 0
+ReadsName names (number m s) = Unit {0}
+ReadsName names (parameter p) = Unit {0}
+ReadsName names (variable (endogenous v) k) = v < length names
+ReadsName names (variable (exogenous v) k) = Unit {0}
+ReadsName names (steady_state v) = Unit {0}
+
+-- so is each that the term reads so
+abbrev pub ReadsNames : List (List ℕ) → Term → Type 0
+ReadsNames names t = AllLeaves (ReadsName names) t

@@ -7,35 +7,38 @@ ghost use Rattle.mp_model_data.specs.Shown.{equation_in, sides_of, IsWithin};
 ghost use Rattle.mp_solutions.specs.Auxiliaries.{shift_by};
 ghost use Rattle.mp_solutions.specs.Transformed.{short, short_equation};
 ghost use Rattle.mp_shift.specs.Called.{auxiliary_of, direction_of};
-ghost use Rattle.mp_shift.specs.Equations.{own_equation, own_equations, HasRoom};
-ghost use Rattle.mp_shift.specs.Stand.{stand_by};
+ghost use Rattle.mp_shift.specs.Equations.{own_equation, own_equations, HasRoom, HasStandIns};
+ghost use Rattle.mp_shift.specs.Stand.{stand_by, ReadsNames};
 
+use crate::first::First;
 use crate::list::Auxiliaries;
 use crate::parts::{Auxiliary, Direction};
-use crate::shorten::Shorten;
+use crate::shorten::short_form;
 use mp_base::NoMemory;
 use mp_expr::VarId;
-use mp_graph::{Graph, LeafOp, NodeId, NodeOp, rewritten};
+use mp_graph::{Graph, LeafOp, NodeId, NodeOp};
 use mp_model_data::Equation;
 use mp_statements::NameKind;
 use std::alloc::Global;
 
-// These equations in short form. The table is by the numbers of nodes.
+// These equations in short form, where the stand-ins of each variable begin at these places. The table is by the numbers
+// of nodes.
 pub(crate) fn short_equations<'t>(
     alloc: Global,
     graph: &mut Graph<'t>,
     equations: &[Equation<'t>],
     images: &mut [NodeId],
-    shorten: &Shorten<'_>,
+    firsts: &[First],
 ) -> Result<Vec<Equation<'t>>, NoMemory>
     requires within { AllByRecursion (IsWithin graph.old) (map sides_of equations.now) }
     requires room { AllByRecursion (HasRoom (length images.old)) (map sides_of equations.now) }
-    ensures equations { IfOk result (λ v. map (equation_in graph.new.terms) (map sides_of v.items) ≡ map (short_equation (stand_by shorten.now.firsts.now)) (map (equation_in graph.old.terms) (map sides_of equations.now))) }
+    requires named { AllByRecursion (HasStandIns graph.old.names.endogenous graph.old.terms firsts.now) (map sides_of equations.now) }
+    ensures equations { IfOk result (λ v. map (equation_in graph.new.terms) (map sides_of v.items) ≡ map (short_equation (stand_by firsts.now)) (map (equation_in graph.old.terms) (map sides_of equations.now))) }
     ensures within { IfOk result (λ v. AllByRecursion (IsWithin graph.new) (map sides_of v.items)) }
     ensures kept { Keeps graph.old graph.new }
 {
     let mut found = Vec::new(alloc);
-    add_short_equations(alloc, graph, equations, images, shorten, &mut found)?;
+    add_short_equations(alloc, graph, equations, images, firsts, &mut found)?;
     Ok(found)
 }
 
@@ -45,18 +48,19 @@ fn add_short_equations<'t>(
     graph: &mut Graph<'t>,
     equations: &[Equation<'t>],
     images: &mut [NodeId],
-    shorten: &Shorten<'_>,
+    firsts: &[First],
     found: &mut Vec<Equation<'t>>,
 ) -> Result<(), NoMemory>
     requires none { found.old.items ≡ [] }
     requires within { AllByRecursion (IsWithin graph.old) (map sides_of equations.now) }
     requires room { AllByRecursion (HasRoom (length images.old)) (map sides_of equations.now) }
-    ensures equations { OnOk result (map (equation_in graph.new.terms) (map sides_of found.new.items) ≡ map (short_equation (stand_by shorten.now.firsts.now)) (map (equation_in graph.old.terms) (map sides_of equations.now))) }
+    requires named { AllByRecursion (HasStandIns graph.old.names.endogenous graph.old.terms firsts.now) (map sides_of equations.now) }
+    ensures equations { OnOk result (map (equation_in graph.new.terms) (map sides_of found.new.items) ≡ map (short_equation (stand_by firsts.now)) (map (equation_in graph.old.terms) (map sides_of equations.now))) }
     ensures within { OnOk result (AllByRecursion (IsWithin graph.new) (map sides_of found.new.items)) }
     ensures kept { Keeps graph.old graph.new }
 {
     'turns: for equation in equations {
-        let short = match short_sides(alloc, graph, equation, images, shorten) {
+        let short = match short_sides(alloc, graph, equation, images, firsts) {
             Ok(short) => short,
             Err(NoMemory) => return Err(NoMemory),
         };
@@ -71,16 +75,17 @@ fn short_sides<'t>(
     graph: &mut Graph<'t>,
     equation: &Equation<'t>,
     images: &mut [NodeId],
-    shorten: &Shorten<'_>,
+    firsts: &[First],
 ) -> Result<Equation<'t>, NoMemory>
     requires within { IsWithin graph.old (sides_of equation.now) }
     requires room { HasRoom (length images.old) (sides_of equation.now) }
-    ensures equation { IfOk result (λ r. equation_in graph.new.terms (sides_of r) ≡ short_equation (stand_by shorten.now.firsts.now) (equation_in graph.old.terms (sides_of equation.now))) }
+    requires named { HasStandIns graph.old.names.endogenous graph.old.terms firsts.now (sides_of equation.now) }
+    ensures equation { IfOk result (λ r. equation_in graph.new.terms (sides_of r) ≡ short_equation (stand_by firsts.now) (equation_in graph.old.terms (sides_of equation.now))) }
     ensures within { IfOk result (λ r. IsWithin graph.new (sides_of r)) }
     ensures kept { Keeps graph.old graph.new }
 {
-    let left = short_side(alloc, graph, equation.left, images, shorten)?;
-    let right = short_side(alloc, graph, equation.right, images, shorten)?;
+    let left = short_side(alloc, graph, equation.left, images, firsts)?;
+    let right = short_side(alloc, graph, equation.right, images, firsts)?;
     Ok(Equation {
         name: equation.name,
         left,
@@ -93,15 +98,16 @@ fn short_side(
     graph: &mut Graph<'_>,
     root: NodeId,
     images: &mut [NodeId],
-    shorten: &Shorten<'_>,
+    firsts: &[First],
 ) -> Result<NodeId, NoMemory>
     requires within { root < length graph.old.terms }
     requires room { root < length images.old }
-    ensures says { IfOk result (λ r. Says graph.new r (short (stand_by shorten.now.firsts.now) (term_at graph.old.terms root))) }
+    requires named { ReadsNames graph.old.names.endogenous (short (stand_by firsts.now) (term_at graph.old.terms root)) }
+    ensures says { IfOk result (λ r. Says graph.new r (short (stand_by firsts.now) (term_at graph.old.terms root))) }
     ensures kept { Keeps graph.old graph.new }
 {
     let own = graph.own_nodes(alloc, root)?;
-    rewritten(graph, root, own.as_slice(), images, shorten)
+    short_form(graph, root, own.as_slice(), images, firsts)
 }
 
 // Adds the equations of these auxiliaries, where so many variables stand before them.
@@ -177,6 +183,7 @@ fn variable_node(graph: &mut Graph<'_>, place: u32, shift: i16) -> Result<NodeId
     graph.intern(NodeOp::Leaf(LeafOp::Var { v, shift }), &[])
 }
 
+// By a call, since an equation that came back from a full list would be let go where the graph is lent.
 fn push<'t>(found: &mut Vec<Equation<'t>>, equation: &Equation<'t>) -> Result<(), NoMemory>
     ensures { OnOk result (map sides_of found.new.items ≡ map sides_of found.old.items ++ sides_of equation.now ∷ []) }
 {

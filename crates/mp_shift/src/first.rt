@@ -7,11 +7,11 @@ use crate::reach::{Reach, reaches};
 use mp_base::NoMemory;
 use mp_model_data::Model;
 use mp_statements::NameKind;
-use std::alloc::{AllocError, Global};
+use std::alloc::Global;
 
 /// The places, from 0, of the first auxiliaries of a variable ahead and back. A variable that has none has the places
 /// where they would stand.
-#[derive(Clone, Copy, Debug)]
+#[derive(Clone, Copy)]
 pub struct First {
     pub lead: u64,
     pub lag: u64,
@@ -38,7 +38,7 @@ fn firsts_from(alloc: Global, start: u32, reaches: &[Reach]) -> Result<Vec<First
     'turns: for index in 0..reaches.len() {
         let reach = reach_at(reaches, index);
         let lag = place + needed(reach.lead);
-        push(&mut found, First { lead: place, lag })?;
+        found.push(First { lead: place, lag })?;
         place = lag + needed(reach.lag);
     }
     Ok(found)
@@ -57,13 +57,4 @@ fn needed(reach: u16) -> u64
     ensures small { result < 65536 }
 {
     u64::from(reach.saturating_sub(1))
-}
-
-fn push(found: &mut Vec<First>, first: First) -> Result<(), NoMemory>
-    ensures { OnOk result (found.new.items ≡ found.old.items ++ first ∷ []) }
-{
-    match found.push(first) {
-        Ok(()) => Ok(()),
-        Err(e) => Err(AllocError::from(e).into()),
-    }
 }

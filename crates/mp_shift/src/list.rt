@@ -7,18 +7,18 @@ ghost use Rattle.mp_shift.specs.Called.{auxiliary_of, direction_of, called_of};
 use crate::parts::{Auxiliary, Direction};
 use crate::reach::Reach;
 use mp_base::NoMemory;
-use std::alloc::{AllocError, Global};
+use std::alloc::Global;
 use std::marker::Model;
 
 /// An auxiliary variable with its name.
-#[derive(Clone, Copy, Debug)]
+#[derive(Clone, Copy)]
 pub struct Called<'n> {
     pub auxiliary: Auxiliary,
     pub name: &'n [u8],
 }
 
 /// An auxiliary variable, and where its name stands.
-#[derive(Clone, Copy, Debug)]
+#[derive(Clone, Copy)]
 pub struct Entry {
     pub auxiliary: Auxiliary,
     pub start: usize,
@@ -66,14 +66,11 @@ impl Auxiliaries {
         let start = self.text.len();
         self.text.extend_from_slice(name)?;
         let end = self.text.len();
-        let entry = Entry {
+        self.entries.push(Entry {
             auxiliary,
             start,
             end,
-        };
-        let Ok(()) = self.entries.push(entry) else {
-            return Err(NoMemory);
-        };
+        })?;
         Ok(())
     }
 
@@ -141,16 +138,7 @@ fn add_chain(
             direction,
             index,
         };
-        push(found, auxiliary)?;
+        found.push(auxiliary)?;
     }
     Ok(())
-}
-
-fn push(found: &mut Vec<Auxiliary>, auxiliary: Auxiliary) -> Result<(), NoMemory>
-    ensures { OnOk result (map auxiliary_of found.new.items ≡ map auxiliary_of found.old.items ++ auxiliary_of auxiliary ∷ []) }
-{
-    match found.push(auxiliary) {
-        Ok(()) => Ok(()),
-        Err(e) => Err(AllocError::from(e).into()),
-    }
 }

@@ -2,14 +2,14 @@
 ghost use Rattle.std.specs.Prelude.{◌≡◌, ◌<◌, length, map, IfOk, OnOk};
 ghost use Rattle.std.specs.List.{AllByRecursion};
 ghost use Rattle.mp_model_data.specs.Shown.{model_data, source_data, sides_of, IsWithin};
+ghost use Rattle.mp_solutions.specs.ShortForm.{IsShortForm};
 ghost use Rattle.mp_solutions.specs.Transformed.{transformed};
 ghost use Rattle.mp_shift.specs.Called.{AreOf, AreNew, with_names};
-ghost use Rattle.mp_shift.specs.Equations.{AreBuilt};
+ghost use Rattle.mp_shift.specs.Equations.{AreBuilt, HasStandIns};
 
 use crate::equations::{add_own_equations, short_equations};
 use crate::first::{First, firsts};
 use crate::list::Auxiliaries;
-use crate::shorten::Shorten;
 use mp_base::NoMemory;
 use mp_graph::{Graph, NodeId};
 use mp_model_data::{Equation, Model, Parts};
@@ -26,7 +26,10 @@ pub fn transform<'n>(
     requires { AreOf (model_data model) auxiliaries.now }
     ensures transformed { IfOk result (λ m. model_data m ≡ transformed (model_data model.entry)) }
     ensures source { IfOk result (λ m. source_data m ≡ model_data model.entry) }
+    // A path solves it exactly when it solves the source and has the shifted values.
+    ensures short_form { IfOk result (λ m. IsShortForm (model_data model.entry) (model_data m)) }
 {
+    mp_solutions::short_form_law();
     model.closed();
     model.graph().names().distinct(NameKind::Endogenous);
     let Ok(firsts) = firsts(alloc, &model) else {
@@ -62,12 +65,13 @@ fn all_equations<'n>(
     requires within { AllByRecursion (IsWithin graph.old) (map sides_of source.now) }
     requires new { AreNew graph.old.names auxiliaries.now }
     requires places { AllByRecursion (λ x. x.auxiliary.place < length graph.old.names.endogenous) auxiliaries.now }
+    requires stand_ins { AllByRecursion (HasStandIns (with_names auxiliaries.now graph.old.names).endogenous graph.old.terms firsts.now) (map sides_of source.now) }
     ensures { IfOk result (λ v. AreBuilt graph.old graph.new (map sides_of source.now) auxiliaries.now firsts.now (map sides_of v.items)) }
 {
     let variables = graph.names().count(NameKind::Endogenous);
     let mut images = blank_images(alloc, graph.nodes())?;
     add_names(graph, auxiliaries)?;
-    let mut found = short_equations(alloc, graph, source, &mut images, &Shorten { firsts })?;
+    let mut found = short_equations(alloc, graph, source, &mut images, firsts)?;
     add_own_equations(graph, &mut found, auxiliaries, variables)?;
     Ok(found)
 }

@@ -3,6 +3,7 @@ ghost use Rattle.std.specs.Prelude.{◌≡◌, ◌<◌, ◌++◌, Some, None, []
 ghost use Rattle.std.specs.List.{AllByRecursion};
 ghost use Rattle.mp_file.specs.Shown.{file_of, statement_of, named_of};
 ghost use Rattle.mp_model_data.specs.Shown.{model_data};
+ghost use Rattle.mp_solutions.specs.Auxiliaries.{auxiliaries_of};
 ghost use Rattle.mp_shift.specs.declared.fault.ShiftFault.TheVariants.{Declared};
 ghost use Rattle.mp_shift.specs.Called.{auxiliary_of, call, AreOf};
 ghost use Rattle.mp_shift.specs.Faults.{place_among, place_in, declared_at, naming_faults, name_fault, naming_fault, Tells};
@@ -12,7 +13,7 @@ use crate::list::{Auxiliaries, listed};
 use crate::names::put_name;
 use crate::parts::Auxiliary;
 use crate::reach::reaches;
-use mp_base::{Bytes, DeclKind, Label};
+use mp_base::{Bytes, DeclKind, Label, NoMemory};
 use mp_file::{File, Named, Statement};
 use mp_model_data::Model;
 use mp_names::Names;
@@ -28,13 +29,21 @@ pub fn auxiliaries(alloc: Global, model: &Model, file: &File) -> Result<Auxiliar
     ensures none { OnOk result (name_fault (file_of file.now) (model_data model.now) ≡ None) }
     ensures err { IfErr result (Tells (name_fault (file_of file.now) (model_data model.now))) }
 {
+    let list = needed(alloc, model)?;
     let names = model.graph().names();
-    let count = names.count(NameKind::Endogenous);
+    let all = list.as_slice();
+    named(alloc, names, file, all)
+}
+
+// Those that the model needs, in order.
+fn needed(alloc: Global, model: &Model) -> Result<Vec<Auxiliary>, NoMemory>
+    ensures { IfOk result (λ v. map auxiliary_of v.items ≡ auxiliaries_of (model_data model.now)) }
+{
+    let count = model.graph().names().count(NameKind::Endogenous);
     let reaches = reaches(alloc, model)?;
     let shifts = reaches.as_slice();
     let list = listed(alloc, shifts, count)?;
-    let all = list.as_slice();
-    named(alloc, names, file, all)
+    Ok(list)
 }
 
 // These with their names, or the fault of the first one that has none.

@@ -15,7 +15,7 @@ use mp_statements::NameKind;
 use std::alloc::Global;
 
 /// How far a variable is shifted at most, ahead and back, in periods.
-#[derive(Clone, Copy, Debug)]
+#[derive(Clone, Copy)]
 pub struct Reach {
     pub lead: u16,
     pub lag: u16,

@@ -4,43 +4,43 @@ ghost use Rattle.mp_expr.specs.Shown.{place_of};
 ghost use Rattle.mp_semantics.specs.Term.{variable, endogenous};
 ghost use Rattle.mp_graph.specs.Images.{HasImages};
 ghost use Rattle.mp_graph.specs.Op.{IsLawfulLeaf, leaf_of};
+ghost use Rattle.mp_graph.specs.Own.{AreOwn};
 ghost use Rattle.mp_graph.specs.declared.op.LeafOp.TheVariants.{Var};
 ghost use Rattle.mp_expr.specs.declared.tree.VarId.TheVariants.{Endo};
 ghost use Rattle.mp_graph.specs.Shared.{term_at, Says, Keeps};
 ghost use Rattle.mp_names.specs.Naming.{IsNumbered};
 ghost use Rattle.mp_solutions.specs.Transformed.{short, short_leaf};
-ghost use Rattle.mp_shift.specs.Stand.{no_first, stand_by};
+ghost use Rattle.mp_shift.specs.Stand.{no_first, stand_by, ReadsName, ReadsNames};
 
 use crate::first::First;
 use mp_base::NoMemory;
 use mp_expr::VarId;
-use mp_graph::{Graph, LeafOp, NodeId, NodeOp, Rewrite};
+use mp_graph::{Graph, LeafOp, NodeId, NodeOp};
+use mp_names::Names;
 use mp_statements::NameKind;
 
-/// Long leads and lags replaced by stand-ins, which begin at these places for each variable.
-#[derive(Clone, Copy)]
-pub struct Shorten<'f> {
-    pub firsts: &'f [First],
-}
-
-impl<'f> Rewrite for Shorten<'f> {
-    ghost use Rattle.mp_solutions.specs.Transformed.{short};
-    ghost use Rattle.mp_shift.specs.Stand.{stand_by};
-
-    ghost image = { λ w t. short (stand_by w.firsts.now) t };
-
-    ghost takes = { λ w t. Unit {0} };
-
-    ghost takes_parts = { λ w t u p h. tt };
-
-    fn image_of(
-        &self,
-        graph: &mut Graph<'_>,
-        id: NodeId,
-        images: &[NodeId],
-    ) -> Result<NodeId, NoMemory> {
-        short_node(graph, id, images, self.firsts)
+// The expression of this node, whose own nodes are given, in short form. The stand-ins of each variable begin at these
+// places, and the graph names them. The table may hold anything, and is written over.
+pub(crate) fn short_form(
+    graph: &mut Graph<'_>,
+    root: NodeId,
+    own: &[NodeId],
+    images: &mut [NodeId],
+    firsts: &[First],
+) -> Result<NodeId, NoMemory>
+    requires within { root < length graph.old.terms }
+    requires own { AreOwn graph.old.terms root own.now }
+    requires table { root < length images.old }
+    requires named { ReadsNames graph.old.names.endogenous (short (stand_by firsts.now) (term_at graph.old.terms root)) }
+    ensures says { IfOk result (λ r. Says graph.new r (short (stand_by firsts.now) (term_at graph.old.terms root))) }
+    ensures kept { Keeps graph.old graph.new }
+{
+    graph.unique();
+    'nodes: for id in own {
+        let image = short_node(graph, *id, images, firsts)?;
+        images[id.index()] = image;
     }
+    Ok(images[root.index()])
 }
 
 // The node with its operands replaced by their images, or a leaf in short form.
@@ -53,6 +53,7 @@ fn short_node(
     requires within { id < length graph.old.terms }
     requires table { id ≤ length images.now }
     requires images { HasImages graph.old images.now id (short (stand_by firsts.now)) }
+    requires named { ReadsNames graph.old.names.endogenous (short (stand_by firsts.now) (term_at graph.old.terms id)) }
     ensures says { IfOk result (λ r. Says graph.new r (short (stand_by firsts.now) (term_at graph.old.terms id))) }
     ensures kept { Keeps graph.old graph.new }
 {
@@ -60,7 +61,7 @@ fn short_node(
     let op = node.op;
     match op {
         NodeOp::Leaf(leaf) => {
-            let leaf = short_leaf(graph, leaf, firsts)?;
+            let leaf = short_leaf(graph.names(), leaf, firsts);
             graph.intern(NodeOp::Leaf(leaf), &[])
         }
         NodeOp::Neg | NodeOp::Pow(_) => {
@@ -82,40 +83,37 @@ fn short_node(
     }
 }
 
-fn short_leaf(graph: &Graph, leaf: LeafOp, firsts: &[First]) -> Result<LeafOp, NoMemory>
-    requires { IsLawfulLeaf graph.now.names leaf }
-    ensures lawful { IfOk result (λ r. IsLawfulLeaf graph.now.names r) }
-    ensures short { IfOk result (λ r. leaf_of r ≡ short_leaf (stand_by firsts.now) (leaf_of leaf)) }
+fn short_leaf(names: &Names, leaf: LeafOp, firsts: &[First]) -> LeafOp
+    requires lawful { IsLawfulLeaf names.now leaf }
+    requires named { ReadsName names.now.endogenous (short_leaf (stand_by firsts.now) (leaf_of leaf)) }
+    ensures lawful { IsLawfulLeaf names.now result }
+    ensures short { leaf_of result ≡ short_leaf (stand_by firsts.now) (leaf_of leaf) }
 {
     match leaf {
         LeafOp::Var {
             v: VarId::Endo(number),
             shift,
-        } => short_variable(graph, number, shift, firsts),
-        _ => Ok(leaf),
+        } => short_variable(names, number, shift, firsts),
+        _ => leaf,
     }
 }
 
 // The endogenous variable of this number, so many periods later, by its stand-in.
-fn short_variable(
-    graph: &Graph,
-    number: u32,
-    shift: i16,
-    firsts: &[First],
-) -> Result<LeafOp, NoMemory>
-    requires { IsNumbered graph.now.names.endogenous number }
-    ensures lawful { IfOk result (λ r. IsLawfulLeaf graph.now.names r) }
-    ensures short { IfOk result (λ r. leaf_of r ≡ short_leaf (stand_by firsts.now) (variable (endogenous (place_of number)) shift)) }
+fn short_variable(names: &Names, number: u32, shift: i16, firsts: &[First]) -> LeafOp
+    requires numbered { IsNumbered names.now.endogenous number }
+    requires named { ReadsName names.now.endogenous (short_leaf (stand_by firsts.now) (variable (endogenous (place_of number)) shift)) }
+    ensures lawful { IsLawfulLeaf names.now result }
+    ensures short { leaf_of result ≡ short_leaf (stand_by firsts.now) (variable (endogenous (place_of number)) shift) }
 {
     let first = first_at(firsts, number - 1);
     let periods = shift.unsigned_abs();
     if periods < 2 {
-        return Ok(shifted(number, shift));
+        return shifted(number, shift);
     }
     if shift < 0 {
-        Ok(shifted(number_at(graph, first.lag, periods - 2)?, -1))
+        shifted(number_at(names, first.lag, periods - 2), -1)
     } else {
-        Ok(shifted(number_at(graph, first.lead, periods - 2)?, 1))
+        shifted(number_at(names, first.lead, periods - 2), 1)
     }
 }
 
@@ -138,15 +136,12 @@ fn first_at(firsts: &[First], place: u32) -> First
     }
 }
 
-// The number of the name so far behind this place. A graph that has no such name takes it for want of memory.
-fn number_at(graph: &Graph, first: u64, further: u16) -> Result<u32, NoMemory>
-    ensures numbered { IfOk result (IsNumbered graph.now.names.endogenous) }
-    ensures place { IfOk result (λ n. place_of n ≡ first + further) }
+// The number of the name so far behind this place.
+fn number_at(names: &Names, first: u64, further: u16) -> u32
+    requires { first + further < length names.now.endogenous }
+    ensures numbered { IsNumbered names.now.endogenous result }
+    ensures place { place_of result ≡ first + further }
 {
-    let count = u64::from(graph.names().count(NameKind::Endogenous));
-    let further = u64::from(further);
-    if first >= count || further >= count - first {
-        return Err(NoMemory);
-    }
-    Ok((first + further) as u32 + 1)
+    let _few = names.count(NameKind::Endogenous);
+    (first + u64::from(further)) as u32 + 1
 }

@@ -9,3 +9,4 @@ pub mod Which
 pub mod Digits
 pub mod Names
 pub mod Edges
+pub mod ShortForm

@@ -3,4 +3,5 @@ pub mod Auxiliaries
 pub mod Transformed
 pub mod Extension
 pub mod Laws
+pub mod ShortForm
 pub mod Example

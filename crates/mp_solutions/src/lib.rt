@@ -14,6 +14,7 @@ ghost use Rattle.mp_solutions.specs.Auxiliaries.{Auxiliary, auxiliaries_of, auxi
 ghost use Rattle.mp_solutions.specs.Transformed.{transformed};
 ghost use Rattle.mp_solutions.specs.Extension.{extended_boundary, HasRims};
 ghost use Rattle.mp_solutions.specs.Laws.{IsClosed, IsShort, IsReadOwnWay, IsDistinct, IsInOrder, KeepsTags, HasPlaces, HasName, HasSameSolutions, HasSameSolutionsWithin, ReadsOwnPart, HasSameSides, IsSameLeaf};
+ghost use Rattle.mp_solutions.specs.ShortForm.{IsShortForm};
 ghost use Rattle.mp_solutions.specs.Example.{source_model, transformed_model, mixed_model, mixed_transformed};
 
 /// A term with other leaves has the value of the first one where each leaf has that of the leaf that it replaces, and is
@@ -58,6 +59,12 @@ pub fn solutions_law()
     ensures same_solutions_within { (M : Model) → IsClosed M → HasSameSolutionsWithin M }
     ensures own_part { (M : Model) → ReadsOwnPart M }
     ensures same_sides { (M : Model) → IsClosed M → HasSameSides M }
+{}
+
+/// The transformed model is its source with long leads and lags replaced: names, equations, tags and shifts, and the same
+/// solutions.
+pub fn short_form_law()
+    ensures { (M : Model) → IsClosed M → IsShortForm M (transformed M) }
 {}
 
 /// The transformed models of two small ones.

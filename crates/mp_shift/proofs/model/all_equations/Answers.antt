@@ -5,6 +5,7 @@ use Rattle.mp_graph.specs.Shared.{Shared}
 use Rattle.mp_graph.proofs.Kept.{keeps-refl}
 use Rattle.mp_model_data.specs.Shown.{sides_of}
 use Rattle.mp_shift.specs.Called.{Called}
+use Rattle.mp_shift.specs.Equations.{HasStandIns}
 use Rattle.mp_shift.proofs.Transformed.{within_terms, has_room, width2, are_built}
 use Rattle.mp_shift.proofs.model.all_equations.Goals as goal
 
@@ -15,6 +16,10 @@ short_equations-requires-clause-within c =
 pub short_equations-requires-clause-room : goal.short_equations-requires-clause-room
 short_equations-requires-clause-room c =
     has_room c.args.graph.now _ (map sides_of c.args.source.now) (omega (arith, c.in_ok-images.ensures, c.nodes.ensures)) c.requires.within
+
+pub short_equations-requires-clause-named : goal.short_equations-requires-clause-named
+short_equations-requires-clause-named c =
+    subst (λ (g : Shared). AllByRecursion (HasStandIns g.names.endogenous g.terms c.args.firsts.now) (map sides_of c.args.source.now)) (sym c.in_ok-add_names.ensures) c.requires.stand_ins
 
 pub add_own_equations-requires-clause-named : goal.add_own_equations-requires-clause-named
 add_own_equations-requires-clause-named c =

@@ -7,11 +7,12 @@ use Rattle.mp_values.specs.Names.{Names}
 use Rattle.mp_graph.specs.Shared.{Shared}
 use Rattle.mp_model_data.specs.declared.parts.Equation.{Equation}
 use Rattle.mp_model_data.specs.Shown.{Held, Sides, sides_of, IsWithin, model_data, source_data}
+use Rattle.mp_solutions.specs.ShortForm.{IsShortForm}
 use Rattle.mp_shift.specs.declared.first.First.{First}
-use Rattle.mp_shift.specs.Called.{Called, AreNew}
-use Rattle.mp_shift.specs.Equations.{AreBuilt}
+use Rattle.mp_shift.specs.Called.{Called, AreNew, with_names}
+use Rattle.mp_shift.specs.Equations.{AreBuilt, HasStandIns}
 use Rattle.mp_shift.specs.Stand.{AreFirst}
-use Rattle.mp_shift.proofs.Transformed.{are_new, places_are, is_transformed, is_source, few}
+use Rattle.mp_shift.proofs.Transformed.{are_new, places_are, stand_ins_are, is_transformed, is_source, few}
 use Rattle.mp_shift.proofs.model.transform.Goals as goal
 
 pub all_equations-requires-clause-within : goal.all_equations-requires-clause-within
@@ -30,6 +31,15 @@ pub all_equations-requires-clause-places : goal.all_equations-requires-clause-pl
 all_equations-requires-clause-places c =
     let h = c.args.model in
     subst (λ (g : Shared). AllByRecursion (λ (x : Called). x.auxiliary.place < length g.names.endogenous) c.args.auxiliaries.now) (sym c.into_parts-graph.ensures.graph) (places_are h c.args.auxiliaries.now c.requires (length h.graph.names.endogenous) refl)
+
+pub all_equations-requires-clause-stand_ins : goal.all_equations-requires-clause-stand_ins
+all_equations-requires-clause-stand_ins c =
+    let h = c.args.model in
+    let xs = c.args.auxiliaries.now in
+    let fs = c.as_slice-begins.result.now in
+    let first = subst (λ (l : List First). AreFirst (model_data h) l) (sym c.as_slice-begins.ensures.value) c.in-Ok.ensures in
+    subst (λ (g : Shared). AllByRecursion (HasStandIns (with_names xs g.names).endogenous g.terms fs) (map sides_of c.as_slice-sides.result.now)) (sym c.into_parts-graph.ensures.graph)
+    (subst (λ (l : List Sides). AllByRecursion (HasStandIns (with_names xs h.graph.names).endogenous h.graph.terms fs) l) (sym (ap (map sides_of) c.as_slice-sides.ensures.value ∙ c.into_parts-graph.ensures.equations)) (stand_ins_are h xs c.requires fs first c.closed.ensures))
 
 pub with_source-requires-clause-named : goal.with_source-requires-clause-named
 with_source-requires-clause-named c =
@@ -56,6 +66,17 @@ returns-clause-transformed c =
     let first = subst (λ (l : List First). AreFirst (model_data h) l) (sym c.as_slice-begins.ensures.value) c.in-Ok.ensures in
     ap (λ (k : Held). model_data k) c.with_source.ensures
     ∙ is_transformed h c.args.auxiliaries.now c.requires c.into_parts-graph.result.graph c.all_equations.new.graph _ _ _ c.count-variables.result c.as_slice-begins.result.now c.into_parts-graph.ensures.graph c.into_parts-graph.ensures.parameters c.into_parts-graph.ensures.equations (c.count-variables.ensures.count ∙ ap (λ (ns : Names). length ns.endogenous) c.names-names.ensures ∙ ap (λ (g : Shared). length g.names.endogenous) c.into_parts-graph.ensures.graph) b c.closed.ensures first
+
+pub returns-clause-short_form : goal.returns-clause-short_form
+returns-clause-short_form c =
+    let h = c.args.model in
+    let b = subst (λ (l : List Equation). AreBuilt c.into_parts-graph.result.graph c.all_equations.new.graph (map sides_of l) c.args.auxiliaries.now c.as_slice-begins.result.now (map sides_of c.in-Ok-all_equations.equations.items)) c.as_slice-sides.ensures.value c.in-Ok-all_equations.ensures in
+    let first = subst (λ (l : List First). AreFirst (model_data h) l) (sym c.as_slice-begins.ensures.value) c.in-Ok.ensures in
+    subst (λ N. IsShortForm (model_data h) N)
+    (sym
+    (ap (λ (k : Held). model_data k) c.with_source.ensures
+    ∙ is_transformed h c.args.auxiliaries.now c.requires c.into_parts-graph.result.graph c.all_equations.new.graph _ _ _ c.count-variables.result c.as_slice-begins.result.now c.into_parts-graph.ensures.graph c.into_parts-graph.ensures.parameters c.into_parts-graph.ensures.equations (c.count-variables.ensures.count ∙ ap (λ (ns : Names). length ns.endogenous) c.names-names.ensures ∙ ap (λ (g : Shared). length g.names.endogenous) c.into_parts-graph.ensures.graph) b c.closed.ensures first))
+    (c.short_form_law.ensures (model_data h) c.closed.ensures)
 
 pub returns-clause-source : goal.returns-clause-source
 returns-clause-source c =
