@@ -20,6 +20,7 @@ ghost use Rattle.mp_canonical.specs.Terms.{
   canonical,
 };
 ghost use Rattle.mp_canonical.specs.Spelled.{spelled};
+ghost use Rattle.mp_derivatives.specs.Meant.{IsPrintableDerivative, MeansTerm};
 ghost use Rattle.mp_print_model.specs.Parts.{before, between, after};
 
 use crate::number::{put_exponent, put_number, put_shift};
@@ -29,12 +30,16 @@ use mp_graph::{BinaryOp, Graph, LeafOp, NodeId, NodeOp};
 use mp_names::NameId;
 use std::alloc::Global;
 
-/// The canonical text of the expression of a node, with the fewest parentheses that the grammar's levels allow. No grammar
-/// reads a steady state yet. It recurs as deep as the expression is high. The layout is modpath's own.
+/// The canonical text of the expression of a node, with the fewest parentheses that the grammar's levels allow. By the
+/// grammar of derivatives it reads back, without a limit of parentheses, as one expression, which means this one; a
+/// steady state is only printed, since no grammar reads it yet. It recurs as deep as the expression is high. The layout
+/// is modpath's own.
 pub fn print_tree(alloc: Global, graph: &Graph, id: NodeId) -> Result<Bytes, NoMemory>
     requires { id < length graph.now.terms }
-    ensures { IfOk result (λ text. text ≡ spelled (canonical graph.now.names (term_at graph.now.terms id))) }
+    ensures text { IfOk result (λ text. text ≡ spelled (canonical graph.now.names (term_at graph.now.terms id))) }
+    ensures reads { IfOk result (λ text. IsPrintableDerivative graph.now.names (term_at graph.now.terms id) → MeansTerm graph.now.names text (term_at graph.now.terms id)) }
 {
+    mp_derivatives::text_law();
     let mut out = Bytes::new(alloc);
     put_node(&mut out, graph, id)?;
     Ok(out)
