@@ -1,5 +1,5 @@
 -- Terms as expressions, with the fewest parentheses that the grammar's levels allow (modpath's own).
-use Rattle.std.specs.Prelude.{ℕ, zero, suc, ℤ, pos, negsuc, List, [], Bool, true, false, not, ◌&&◌, ◌||◌, ◌==◌, nat_lt, Option, Some, None, if◌then◌else◌, slice_index_or}
+use Rattle.std.specs.Prelude.{ℕ, zero, suc, ℤ, pos, negsuc, List, [], ◌++◌, Bool, true, false, not, ◌&&◌, ◌||◌, ◌==◌, nat_lt, Option, Some, None, if◌then◌else◌, slice_index_or, codes}
 use Rattle.mp_rational.specs.Fraction.{Fraction}
 use Rattle.mp_rational.specs.Lowest.{numerator, denominator}
 use Rattle.mp_syntax.specs.declared.operator.Sign.TheVariants as sign
@@ -77,12 +77,16 @@ canonical_shift (pos zero) = None
 canonical_shift (pos (suc n)) = Some (record { sign = sign.Plus; digits = decimal_digits (suc n) })
 canonical_shift (negsuc n) = Some (record { sign = sign.Minus; digits = decimal_digits (suc n) })
 
--- no text has a steady state yet
+-- how the steady state of a variable is spelled
+abbrev pub steady_state_text : List ℕ → List ℕ
+steady_state_text name = codes "STEADY_STATE(" ++ (name ++ codes ")")
+
+-- the grammar reads no steady state yet: it is spelled as a name that no variable has
 abbrev pub canonical_leaf : Names → Leaf → Expr
 canonical_leaf ns (number m s) = expr.Number (number_text m s) 0
 canonical_leaf ns (parameter q) = expr.Variable (unplaced (name_at ns.parameters q)) None
 canonical_leaf ns (variable x k) = expr.Variable (unplaced (variable_name ns x)) (canonical_shift k)
-canonical_leaf ns (steady_state v) = expr.Number [] 0
+canonical_leaf ns (steady_state v) = expr.Variable (unplaced (steady_state_text (name_at ns.endogenous v))) None
 
 -- a whole number, with "-" before it if it is negative
 abbrev pub canonical_whole : ℤ → Expr

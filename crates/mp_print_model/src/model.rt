@@ -3,7 +3,8 @@ ghost use Rattle.std.specs.Prelude.{◌≡◌, [], ◌∷◌, ◌++◌, map, opt
 ghost use Rattle.std.specs.List.{flat_map, AllByRecursion};
 ghost use Rattle.mp_model_data.specs.Shown.{IsWithin, parameter_of, sides_of, equation_in, model_data};
 ghost use Rattle.mp_canonical.specs.Files.{quote_of, tags_part, names_part, value_part, equation_part, equations_part, canonical_text};
-ghost use Rattle.mp_canonical.specs.Printable.{stands_in};
+ghost use Rattle.mp_canonical.specs.Means.{MeansModel};
+ghost use Rattle.mp_canonical.specs.Printable.{stands_in, IsPrintable};
 ghost use Rattle.mp_canonical.specs.Spelled.{item_text, kind_word, tags_text, name_text, statement_text, lines_of};
 
 use crate::node::put_node;
@@ -16,11 +17,14 @@ use mp_statements::NameKind;
 use std::alloc::Global;
 
 /// The canonical text of a model: its names, the values of its parameters, and its equations, each part where it has
-/// content and each equation on a line of its own, after the tag of its name if it has one. It reads back to the model.
-/// The layout is modpath's own.
+/// content and each equation on a line of its own, after the tag of its name if it has one. The text of a model that
+/// needs no more than the 500 parentheses that may be open at once, and that a text can write, reads back as one file,
+/// which means this model. The layout is modpath's own.
 pub fn print_model(alloc: Global, model: &Model) -> Result<Bytes, NoMemory>
-    ensures { IfOk result (λ text. text ≡ canonical_text (model_data model.now)) }
+    ensures text { IfOk result (λ text. text ≡ canonical_text (model_data model.now)) }
+    ensures reads { IfOk result (λ text. IsPrintable 500 (model_data model.now) → MeansModel text (model_data model.now)) }
 {
+    mp_canonical::canonical_law();
     let graph = model.graph();
     let names = graph.names();
     let mut out = Bytes::new(alloc);

@@ -1,7 +1,8 @@
 // The text of an expression.
 ghost use Rattle.std.specs.Prelude.{◌≡◌, ◌<◌, ◌++◌, length, codes, OnOk, IfOk};
 ghost use Rattle.mp_semantics.specs.Term.{binary, pick};
-ghost use Rattle.mp_expr.specs.Shown.{variable_of};
+ghost use Rattle.mp_names.specs.Naming.{IsNumbered};
+ghost use Rattle.mp_expr.specs.Shown.{place_of, variable_of};
 ghost use Rattle.mp_graph.specs.Op.{IsLawfulLeaf, IsVariable, leaf_of, binary_of};
 ghost use Rattle.mp_graph.specs.Shared.{term_at};
 ghost use Rattle.mp_canonical.specs.Terms.{
@@ -12,11 +13,14 @@ ghost use Rattle.mp_canonical.specs.Terms.{
   begins_minus,
   is_loose_right,
   fenced,
+  name_at,
   variable_name,
+  steady_state_text,
   canonical_leaf,
   canonical,
 };
 ghost use Rattle.mp_canonical.specs.Spelled.{spelled};
+ghost use Rattle.mp_derivatives.specs.Meant.{IsPrintableDerivative, MeansTerm};
 ghost use Rattle.mp_print_model.specs.Parts.{before, between, after};
 
 use crate::number::{put_exponent, put_number, put_shift};
@@ -26,12 +30,16 @@ use mp_graph::{BinaryOp, Graph, LeafOp, NodeId, NodeOp};
 use mp_names::NameId;
 use std::alloc::Global;
 
-/// The canonical text of the expression of a node, with the fewest parentheses that the grammar's levels allow. No text
-/// has a steady state yet. It recurs as deep as the expression is high. The layout is modpath's own.
+/// The canonical text of the expression of a node, with the fewest parentheses that the grammar's levels allow. By the
+/// grammar of derivatives it reads back, without a limit of parentheses, as one expression, which means this one; a
+/// steady state is only printed, since no grammar reads it yet. It recurs as deep as the expression is high. The layout
+/// is modpath's own.
 pub fn print_tree(alloc: Global, graph: &Graph, id: NodeId) -> Result<Bytes, NoMemory>
     requires { id < length graph.now.terms }
-    ensures { IfOk result (λ text. text ≡ spelled (canonical graph.now.names (term_at graph.now.terms id))) }
+    ensures text { IfOk result (λ text. text ≡ spelled (canonical graph.now.names (term_at graph.now.terms id))) }
+    ensures reads { IfOk result (λ text. IsPrintableDerivative graph.now.names (term_at graph.now.terms id) → MeansTerm graph.now.names text (term_at graph.now.terms id)) }
 {
+    mp_derivatives::text_law();
     let mut out = Bytes::new(alloc);
     put_node(&mut out, graph, id)?;
     Ok(out)
@@ -213,7 +221,7 @@ fn put_leaf(out: &mut Bytes, graph: &Graph, leaf: LeafOp) -> Result<(), NoMemory
             put_variable(out, graph, v)?;
             put_shift(out, shift)
         }
-        LeafOp::Anchor(_) => Ok(()),
+        LeafOp::Anchor(n) => put_steady_state(out, graph, n),
     }
 }
 
@@ -226,6 +234,17 @@ fn put_variable(out: &mut Bytes, graph: &Graph, v: VarId) -> Result<(), NoMemory
         VarId::Endo(n) => out.add(graph.name(NameId::Endo(n))),
         VarId::Exo(n) => out.add(graph.name(NameId::Exo(n))),
     }
+}
+
+// The steady state of the endogenous variable of this number.
+#[tactic(auto, using(crate::proofs::Places::numbered_place))]
+fn put_steady_state(out: &mut Bytes, graph: &Graph, n: u32) -> Result<(), NoMemory>
+    requires { IsNumbered graph.now.names.endogenous n }
+    ensures { OnOk result (out.new ≡ out.old ++ steady_state_text (name_at graph.now.names.endogenous (place_of n))) }
+{
+    out.add(b"STEADY_STATE(")?;
+    out.add(graph.name(NameId::Endo(n)))?;
+    out.add(b")")
 }
 
 fn put_before(out: &mut Bytes, op: BinaryOp) -> Result<(), NoMemory>
