@@ -1,6 +1,7 @@
 -- The reading of one line more.
-use Rattle.std.proofs.Common.{◌≡◌, ℕ, suc, ◌+◌, ◌-◌, List, [], ◌∷◌, drop, length, true, arith, Result, Ok, Err, sym, ap, ◌∙◌, subst}
+use Rattle.std.proofs.Common.{◌≡◌, ℕ, suc, ◌+◌, ◌-◌, List, [], ◌∷◌, drop, length, true, arith, Option, Some, None, Result, Ok, Err, sym, ap, ◌∙◌, subst}
 use Rattle.mp_base.specs.declared.kinds.MacroKind.{MacroKind}
+use Rattle.mp_base.specs.Answers.{Gives, Refuses}
 use Rattle.mp_directive.specs.Results.{◌>>=◌}
 use Rattle.mp_directive.specs.Lines.{lines}
 use Rattle.mp_directive.specs.Directives as d
@@ -8,12 +9,9 @@ use Rattle.mp_directive.specs.Groups.{Reading, Fault, AreAlone, after_line, afte
 use Rattle.mp_directive.specs.Tree.{Nodes, Done, Simple, joined, is_alone, line_before, run_before}
 use Rattle.mp_directive.proofs.Joined.{joined-none, joined-last-node, joined-joined, line-joined, run-more}
 use Rattle.mp_directive.specs.Shown.{nodes_of}
-use Rattle.mp_directive.specs.Gives.{reading_of, Gives, GivesPlaced, Placed}
+use Rattle.mp_directive.specs.Gives.{reading_of, told}
 use Rattle.mp_directive.specs.declared.groups.Reader.{Reader}
-use Rattle.mp_directive.specs.declared.fault.LineFault.{LineFault}
-use Rattle.mp_directive.specs.declared.fault.LineFault.TheVariants as l
 use Rattle.mp_directive.specs.declared.fault.TreeFault.{TreeFault}
-use Rattle.mp_directive.specs.declared.fault.TreeFault.TheVariants as f
 use Rattle.mp_directive.specs.declared.tree.Node.{Node}
 
 pub turn-ok : (line : ℕ) (rest first more : List ℕ) (r s : Reading) (t : Result Reading Fault) → lines rest ≡ first ∷ lines more → after_line line (d.content_of first) r ≡ Ok s → after_lines line (lines rest) r ≡ t → after_lines (line + 1) (lines more) s ≡ t
@@ -21,33 +19,32 @@ unfolding after_lines
 turn-ok line rest first more r s t split step told =
     sym (ap (λ ls. after_lines line ls r) split ∙ ap (λ x. at line x >>= after_lines (line + 1) (lines more)) step) ∙ told
 
-pub turn-err : (line : ℕ) (rest first more : List ℕ) (r : Reading) (kind : MacroKind) (t : Result Reading Fault) → lines rest ≡ first ∷ lines more → after_line line (d.content_of first) r ≡ Err kind → after_lines line (lines rest) r ≡ t → t ≡ Err (record { kind = kind; line = line })
-unfolding after_lines
-turn-err line rest first more r kind t split step told =
-    sym told ∙ ap (λ ls. after_lines line ls r) split ∙ ap (λ x. at line x >>= after_lines (line + 1) (lines more)) step
-
 pub turn-end : (line : ℕ) (rest : List ℕ) (r : Reading) (t : Result Reading Fault) → length rest ≡ 0 → after_lines line (lines rest) r ≡ t → t ≡ Ok r
 unfolding after_lines lines
 turn-end line [] r t e told = sym told
 turn-end line (b ∷ bs) r t e told = cc
 
 -- what was read for a line
-pub placed-ok : (a : Result Reader LineFault) (line : ℕ) (x : Reader) (step : Result Reading MacroKind) → Placed a line (Ok x) → Gives reading_of a step → step ≡ Ok (reading_of x)
-placed-ok (Ok y) line x step p g = let same : x ≡ y = cc in g ∙ ap (λ z. Ok (reading_of z)) (sym same)
-placed-ok (Err (l.Refused kind)) line x step p g = cc
-placed-ok (Err l.NoMemory) line x step p g = cc
+pub placed-ok : (line : ℕ) (x : Reader) (step : Result Reading MacroKind) → Gives reading_of told (Ok x) (at line step) → step ≡ Ok (reading_of x)
+placed-ok line x (Ok r) g = let same : r ≡ reading_of x = cc in ap Ok same
+placed-ok line x (Err kind) g = cc
 
-pub placed-err : (a : Result Reader LineFault) (line : ℕ) (rest first more : List ℕ) (r : Reading) (e : TreeFault) (bytes : List ℕ) → Placed a line (Err e) → Gives reading_of a (after_line line (d.content_of first) r) → lines rest ≡ first ∷ lines more → after_lines line (lines rest) r ≡ after_lines 1 (lines bytes) nothing_read → GivesPlaced {Y = List Node} nodes_of (Err e) (groups bytes)
-placed-err (Ok y) line rest first more r e bytes p g split told = cc
-placed-err (Err (l.Refused kind)) line rest first more r e bytes p g split told =
-    let same : e ≡ f.Refused kind line = cc in
-    rw same (ap (λ x. x >>= whole) (turn-err line rest first more r kind _ split g told))
-placed-err (Err l.NoMemory) line rest first more r e bytes p g split told =
-    let same : e ≡ f.NoMemory = cc in rw same tt
+refuses-next : {A B : Type 0} (t : Option Fault) (x : Result A Fault) (next : A → Result B Fault) → Refuses t x → Refuses t (x >>= next)
+refuses-next None x next r = tt
+refuses-next (Some f) x next r = ap (λ y. y >>= next) r
 
-pub ends : (line : ℕ) (rest bytes : List ℕ) (r : Reading) (result : Result (List Node) TreeFault) → length rest ≡ 0 → after_lines line (lines rest) r ≡ after_lines 1 (lines bytes) nothing_read → GivesPlaced nodes_of result (whole r) → GivesPlaced nodes_of result (groups bytes)
-ends line rest bytes r result e told g =
-    subst (GivesPlaced nodes_of result) (sym (ap (λ x. x >>= whole) (turn-end line rest r _ e told))) g
+-- a line that is at fault
+pub placed-err : (line : ℕ) (rest first more : List ℕ) (r : Reading) (t : Option Fault) (bytes : List ℕ) → Refuses t (at line (after_line line (d.content_of first) r)) → lines rest ≡ first ∷ lines more → after_lines line (lines rest) r ≡ after_lines 1 (lines bytes) nothing_read → Refuses t (groups bytes)
+unfolding after_lines
+placed-err line rest first more r t bytes stops split same =
+    let further = after_lines (line + 1) (lines more) in
+    let refused = refuses-next t (at line (after_line line (d.content_of first) r)) further stops in
+    refuses-next t (after_lines 1 (lines bytes) nothing_read) whole
+    (subst (Refuses t) (sym (ap (λ ls. after_lines line ls r) split) ∙ same) refused)
+
+pub ends : (line : ℕ) (rest bytes : List ℕ) (r : Reading) (result : Result (List Node) TreeFault) → length rest ≡ 0 → after_lines line (lines rest) r ≡ after_lines 1 (lines bytes) nothing_read → Gives nodes_of told result (whole r) → Gives nodes_of told result (groups bytes)
+ends line rest bytes r result e same g =
+    subst (Gives nodes_of told result) (sym (ap (λ x. x >>= whole) (turn-end line rest r _ e same))) g
 
 -- a line by itself
 alone-step : (line : ℕ) (c : d.Content) (ls : List (List ℕ)) (r : Reading) → is_alone c ≡ true → (at line (after_line line c r) >>= after_lines (line + 1) ls) ≡ after_lines (line + 1) ls (record { groups = r.groups; nodes = joined r.nodes (line_before line c Done) })

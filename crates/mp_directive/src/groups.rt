@@ -1,13 +1,15 @@
 // How lines stand in groups.
-ghost use Rattle.std.specs.Prelude.{◌≡◌, ◌≤◌, ◌+◌, [], length, false, Err, IfOk};
+ghost use Rattle.std.specs.Prelude.{◌≡◌, ◌≤◌, ◌+◌, [], length, false, Result, Err, IfOk};
+ghost use Rattle.mp_base.specs.Answers.{Gives};
 ghost use Rattle.mp_directive.specs.Lines.{lines};
 ghost use Rattle.mp_directive.specs.Tree.{nodes_weight, with_branch, joined, is_alone, Branches};
 ghost use Rattle.mp_directive.specs.Tree as t;
-ghost use Rattle.mp_directive.specs.Groups.{AreAlone, nothing_read, is_otherwise, further, choice_ended, loop_ended, after_line, opener, whole, groups};
+ghost use Rattle.mp_directive.specs.Groups.{Reading, AreAlone, nothing_read, at, is_otherwise, further, choice_ended, loop_ended, after_line, opener, whole, groups};
 ghost use Rattle.mp_directive.specs.Directives.{If, For};
 ghost use Rattle.mp_directive.specs.Shown.{condition_of, shown, node_before, nodes_of, branch_of, branches_of, group_of};
 ghost use Rattle.mp_directive.specs.Structure.{GivesMeant};
-ghost use Rattle.mp_directive.specs.Gives.{reading_of, Gives, GivesPlaced, Placed};
+ghost use Rattle.mp_base.specs.declared.kinds.MacroKind.{MacroKind};
+ghost use Rattle.mp_directive.specs.Gives.{reading_of, told_kind, told};
 
 use crate::content::{Condition, Content, content_of};
 use crate::fault::{LineFault, TreeFault};
@@ -75,7 +77,7 @@ impl<'t> Reader<'t> {
 
     // A choice opens.
     fn choice_opened(self, line: u32, condition: Condition<'t>) -> Result<Reader<'t>, LineFault>
-        ensures { Gives reading_of result (after_line line (If (condition_of condition.entry)) (reading_of self.entry)) }
+        ensures { Gives reading_of told_kind result (after_line line (If (condition_of condition.entry)) (reading_of self.entry)) }
     {
         let Reader {
             alloc,
@@ -101,7 +103,7 @@ impl<'t> Reader<'t> {
 
     // A loop opens.
     fn loop_opened(self, head: Head<'t>) -> Result<Reader<'t>, LineFault>
-        ensures { Gives reading_of result (after_line head.entry.line (For head.entry.name.now head.entry.array.now) (reading_of self.entry)) }
+        ensures { Gives reading_of told_kind result (after_line head.entry.line (For head.entry.name.now head.entry.array.now) (reading_of self.entry)) }
     {
         let Reader {
             alloc,
@@ -121,7 +123,7 @@ impl<'t> Reader<'t> {
 
     // A further branch: in a choice, and not after its `@#else`.
     fn further(self, line: u32, condition: Condition<'t>) -> Result<Reader<'t>, LineFault>
-        ensures { Gives reading_of result (further line (condition_of condition.entry) (reading_of self.entry).nodes (reading_of self.entry).groups) }
+        ensures { Gives reading_of told_kind result (further line (condition_of condition.entry) (reading_of self.entry).nodes (reading_of self.entry).groups) }
     {
         let Reader {
             alloc,
@@ -160,7 +162,7 @@ impl<'t> Reader<'t> {
 
     // The end of a choice.
     fn choice_ended(self) -> Result<Reader<'t>, LineFault>
-        ensures { Gives reading_of result (choice_ended (reading_of self.entry).nodes (reading_of self.entry).groups) }
+        ensures { Gives reading_of told_kind result (choice_ended (reading_of self.entry).nodes (reading_of self.entry).groups) }
     {
         let Reader {
             alloc,
@@ -191,7 +193,7 @@ impl<'t> Reader<'t> {
 
     // The end of a loop.
     fn loop_ended(self) -> Result<Reader<'t>, LineFault>
-        ensures { Gives reading_of result (loop_ended (reading_of self.entry).nodes (reading_of self.entry).groups) }
+        ensures { Gives reading_of told_kind result (loop_ended (reading_of self.entry).nodes (reading_of self.entry).groups) }
     {
         let Reader {
             alloc,
@@ -216,7 +218,7 @@ impl<'t> Reader<'t> {
     #[tactic(auto, using(crate::proofs::Joined::lasts))]
     fn after(self, line: u32, content: Content<'t>) -> Result<Reader<'t>, LineFault>
         requires { is_alone (shown content) ≡ false }
-        ensures { Gives reading_of result (after_line line (shown content.entry) (reading_of self.entry)) }
+        ensures { Gives reading_of told_kind result (after_line line (shown content.entry) (reading_of self.entry)) }
     {
         match content {
             Content::Alone(_) => Ok(self),
@@ -232,7 +234,7 @@ impl<'t> Reader<'t> {
 
     // No group may be open at the end.
     fn whole(self) -> Result<Items<Node<'t>>, TreeFault>
-        ensures { GivesPlaced nodes_of result (whole (reading_of self.entry)) }
+        ensures { Gives nodes_of told result (whole (reading_of self.entry)) }
     {
         let Reader { groups, nodes, .. } = self;
         match groups.as_slice().first() {
@@ -273,7 +275,7 @@ fn with_branch<'t>(
     condition: Condition<'t>,
     body: Items<Node<'t>>,
 ) -> Result<Items<Branch<'t>>, LineFault>
-    ensures { Gives branches_of result (Ok (with_branch (branches_of finished.entry) line (condition_of condition.entry) (nodes_of body.entry))) }
+    ensures { Gives branches_of told_kind result (Ok (with_branch (branches_of finished.entry) line (condition_of condition.entry) (nodes_of body.entry))) }
 {
     let mut branches = finished;
     branches.push(branch_with(line, condition, body))?;
@@ -304,7 +306,7 @@ fn opener_of(group: &Group) -> u32
 
 // What one line more makes, at its line.
 fn placed<'t>(answer: Result<Reader<'t>, LineFault>, line: u32) -> Result<Reader<'t>, TreeFault>
-    ensures { Placed answer.entry line result }
+    ensures { (meant : Result Reading MacroKind) → Gives reading_of told_kind answer.entry meant → Gives reading_of told result (at line meant) }
 {
     match answer {
         Ok(reader) => Ok(reader),
@@ -348,7 +350,7 @@ fn run_length<'t>(text: &'t [u8]) -> (u32, &'t [u8])
 pub fn tree_of<'t>(alloc: Global, text: &'t [u8]) -> Result<Items<Node<'t>>, TreeFault>
     requires { length text.now ≤ 8388608 }
     ensures by_grammar { GivesMeant text.now result }
-    ensures tree { GivesPlaced nodes_of result (groups text.now) }
+    ensures tree { Gives nodes_of told result (groups text.now) }
     ensures few { IfOk result (λ nodes. nodes_weight (nodes_of nodes) ≤ length text.now) }
 {
     read_lines(alloc, text)
@@ -356,7 +358,7 @@ pub fn tree_of<'t>(alloc: Global, text: &'t [u8]) -> Result<Items<Node<'t>>, Tre
 
 fn read_lines<'t>(alloc: Global, text: &'t [u8]) -> Result<Items<Node<'t>>, TreeFault>
     requires { length text.now ≤ 8388608 }
-    ensures tree { GivesPlaced nodes_of result (groups text.now) }
+    ensures tree { Gives nodes_of told result (groups text.now) }
     ensures few { IfOk result (λ nodes. nodes_weight (nodes_of nodes) ≤ length text.now) }
 {
     let mut reader = Reader::new(alloc);

@@ -1,13 +1,11 @@
 -- The value of a chain or an array, step by step.
-use Rattle.std.proofs.Common.{◌≡◌, ℕ, ◌+◌, ◌<◌, ◌≤◌, List, [], ◌∷◌, drop, get_or, length, Ok, Err, refl, sym, ap, ◌∙◌, arith}
+use Rattle.std.proofs.Common.{◌≡◌, ℕ, ◌+◌, ◌<◌, ◌≤◌, List, [], ◌∷◌, drop, get_or, length, Option, Some, None, Ok, Err, refl, sym, ap, ◌∙◌, arith}
 use Rattle.std.proofs.lemmas.List.{drop_more}
 use Rattle.std.proofs.lemmas.Grind.{common_steps}
+use Rattle.mp_base.specs.Answers.{Refuses}
 use Rattle.mp_base.specs.declared.kinds.MacroKind.{MacroKind}
 use Rattle.mp_mvalue.specs.declared.value.Value.{Value}
-use Rattle.mp_mvalue.specs.declared.fault.MacroFault.{MacroFault}
-use Rattle.mp_mvalue.specs.declared.fault.MacroFault.TheVariants as f
 use Rattle.mp_mvalue.specs.Environments.{Names}
-use Rattle.mp_mvalue.specs.Gives.{GivesValue}
 use Rattle.mp_mvalue.specs.Made.{Valued, made}
 use Rattle.mp_mexpr.specs.declared.operator.Operator.TheVariants as o
 use Rattle.mp_mexpr.specs.declared.expression.Expr.{Expr}
@@ -56,17 +54,17 @@ values-fail names kind [] = refl
 values-fail names kind (x ∷ xs) = values-fail names kind xs
 
 -- a step or an element that has no value ends what follows it
-pub steps-stop : (names : Names) (first found : Valued) (steps : List Step) (i : ℕ) (x : Step) (e : MacroFault) → i < length steps → x ≡ get_or steps i x → steps_value names found (drop i steps) ≡ steps_value names first steps → GivesValue (Err e) (step_value names found x) → GivesValue (Err e) (steps_value names first steps)
-steps-stop names first found steps i x (f.Refused kind) lt is told g =
+pub steps-stop : (names : Names) (first found : Valued) (steps : List Step) (i : ℕ) (x : Step) (t : Option MacroKind) → i < length steps → x ≡ get_or steps i x → steps_value names found (drop i steps) ≡ steps_value names first steps → Refuses t (step_value names found x) → Refuses t (steps_value names first steps)
+steps-stop names first found steps i x (Some kind) lt is told g =
     sym told ∙ ap (steps_value names found) (drop_more steps i x lt ∙ ap (λ y. y ∷ drop (i + 1) steps) (sym is))
     ∙ ap (λ v. steps_value names v (drop (i + 1) steps)) g
     ∙ steps-fail names kind (drop (i + 1) steps)
-steps-stop names first found steps i x f.NoMemory lt is told g = tt
+steps-stop names first found steps i x None lt is told g = tt
 
-pub elements-stop : (names : Names) (xs : List Value) (elements : List Expr) (i : ℕ) (x : Expr) (e : MacroFault) → i < length elements → x ≡ get_or elements i x → values_after names (Ok xs) (drop i elements) ≡ values_after names (Ok []) elements → GivesValue (Err e) (value_of names (expr_of x)) → GivesValue (Err e) (array_value (values_of names (after s.Empty elements)))
-elements-stop names xs elements i x (f.Refused kind) lt is told g =
+pub elements-stop : (names : Names) (xs : List Value) (elements : List Expr) (i : ℕ) (x : Expr) (t : Option MacroKind) → i < length elements → x ≡ get_or elements i x → values_after names (Ok xs) (drop i elements) ≡ values_after names (Ok []) elements → Refuses t (value_of names (expr_of x)) → Refuses t (array_value (values_of names (after s.Empty elements)))
+elements-stop names xs elements i x (Some kind) lt is told g =
     ap array_value (values-are names s.Empty elements ∙ sym told ∙ ap (values_after names (Ok xs)) (drop_more elements i x lt ∙ ap (λ y. y ∷ drop (i + 1) elements) (sym is)) ∙ ap (λ v. values_after names (with_element (Ok xs) v) (drop (i + 1) elements)) g ∙ values-fail names kind (drop (i + 1) elements))
-elements-stop names xs elements i x f.NoMemory lt is told g = tt
+elements-stop names xs elements i x None lt is told g = tt
 
 none-left : (n : ℕ) (xs : List Expr) → length xs ≤ n → drop n xs ≡ []
 none-left n xs le = grind (arith, common_steps)
@@ -75,7 +73,7 @@ pub elements-end : (names : Names) (xs : List Value) (elements : List Expr) (i :
 elements-end names xs elements i le told =
     ap array_value (sym (ap (values_after names (Ok xs)) (none-left i elements le)) ∙ told ∙ sym (values-are names s.Empty elements))
 
-pub first-stops : (names : Names) (first : s.Expr) (steps : List Step) (e : MacroFault) → GivesValue (Err e) (value_of names first) → GivesValue (Err e) (value_of names (all_stepped first steps))
-first-stops names first steps (f.Refused kind) g =
+pub first-stops : (names : Names) (first : s.Expr) (steps : List Step) (t : Option MacroKind) → Refuses t (value_of names first) → Refuses t (value_of names (all_stepped first steps))
+first-stops names first steps (Some kind) g =
     steps-are names first steps ∙ ap (λ v. steps_value names v steps) g ∙ steps-fail names kind steps
-first-stops names first steps f.NoMemory g = tt
+first-stops names first steps None g = tt

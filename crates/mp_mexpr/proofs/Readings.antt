@@ -1,12 +1,14 @@
 -- The reading functions and the grammar say the same.
 use Rattle.std.proofs.Common.{◌≡◌, ℕ, List, [], ◌∷◌, length, Bool, true, false, if◌then◌else◌, Option, Some, None, Result, Ok, Err, refl, sym, ap, ◌∙◌, subst, arith}
+use Rattle.mp_base.specs.Answers.{Gives}
 use Rattle.mp_base.specs.declared.kinds.MacroKind.TheVariants.{NestDeep, BadExpression}
 use Rattle.mp_mvalue.specs.declared.fault.MacroFault.{MacroFault}
 use Rattle.mp_mvalue.specs.declared.fault.MacroFault.TheVariants as f
 use Rattle.mp_mvalue.specs.declared.sharing.SharedValue.{SharedValue}
 use Rattle.mp_mvalue.specs.Environments.{Names}
-use Rattle.mp_mvalue.specs.Gives.{GivesValue}
 use Rattle.mp_mvalue.specs.Made.{Valued}
+use Rattle.mp_mvalue.specs.Shared.{unshared}
+use Rattle.mp_mvalue.specs.Told.{told}
 use Rattle.mp_mexpr.specs.Grammar.{whole, is_empty, expr_at, expression_of, value_or_bad, value_by, meaning}
 use Rattle.mp_mexpr.specs.Readings as g
 use Rattle.mp_mexpr.specs.Readings.{OrReads, Reads, Means, GivesMeant}
@@ -76,7 +78,7 @@ means_one names _ _ (g.Means.read ts e is reads) =
     ap (value_or_bad names) (sym (expression_only ts e is reads))
     ∙ ap (λ (d : Bool). if d then Err NestDeep else value_or_bad names (expression_of ts)) (sym is)
 
-pub gives_meant : (names : Names) (text : List ℕ) (result : Result SharedValue MacroFault) → GivesValue result (meaning names text) → GivesMeant names text result
+pub gives_meant : (names : Names) (text : List ℕ) (result : Result SharedValue MacroFault) → Gives unshared told result (meaning names text) → GivesMeant names text result
 gives_meant names text (Ok value) same = subst (Means names (tokens text)) same (means_value names (tokens text))
 gives_meant names text (Err (f.Refused kind)) same = subst (Means names (tokens text)) same (means_value names (tokens text))
 gives_meant names text (Err f.NoMemory) same = tt

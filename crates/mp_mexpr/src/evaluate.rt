@@ -1,8 +1,9 @@
 // The value of an expression.
 ghost use Rattle.std.specs.Prelude.{Ok};
+ghost use Rattle.mp_base.specs.Answers.{Gives};
 ghost use Rattle.mp_mvalue.specs.Environments.{value_in};
-ghost use Rattle.mp_mvalue.specs.Gives.{GivesValue};
 ghost use Rattle.mp_mvalue.specs.Shared.{unshared};
+ghost use Rattle.mp_mvalue.specs.Told.{told};
 ghost use Rattle.mp_mexpr.specs.Grammar.{meaning, value_by, value_or_bad, expression_of};
 ghost use Rattle.mp_mexpr.specs.Meaning.{array_value, or_value, and_value, apply_value, index_value};
 ghost use Rattle.mp_mexpr.specs.Readings.{GivesMeant};
@@ -29,14 +30,14 @@ use std::alloc::Global;
 /// close; else BadExpression where it has no reading; else what the first operand or operator that has no value gives,
 /// from left to right (Dynare manual, "Macro processing language"; kinds, precedence and limits are modpath's own).
 pub fn eval(alloc: Global, expr: &[u8], env: &Env) -> Result<SharedValue, MacroFault>
-    ensures value { GivesValue result (meaning (value_in env.now) expr.now) }
+    ensures value { Gives unshared told result (meaning (value_in env.now) expr.now) }
     ensures by_grammar { GivesMeant (value_in env.now) expr.now result }
 {
     value_of_bytes(alloc, expr, env)
 }
 
 fn value_of_bytes(alloc: Global, expr: &[u8], env: &Env) -> Result<SharedValue, MacroFault>
-    ensures { GivesValue result (meaning (value_in env.now) expr.now) }
+    ensures { Gives unshared told result (meaning (value_in env.now) expr.now) }
 {
     let (tokens, whole) = lex(alloc, expr)?;
     let value = value_of_lexed(alloc, env, tokens.as_slice(), whole);
@@ -51,7 +52,7 @@ fn value_of_lexed(
     tokens: Rest,
     whole: bool,
 ) -> Result<SharedValue, MacroFault>
-    ensures { GivesValue result (value_by (value_in env.now) (toks tokens.now, whole)) }
+    ensures { Gives unshared told result (value_by (value_in env.now) (toks tokens.now, whole)) }
 {
     if is_deep(tokens) {
         return refused(MacroKind::NestDeep);
@@ -64,7 +65,7 @@ fn value_of_lexed(
 
 // The value of the expression that all of these tokens are.
 fn value_of_tokens(alloc: Global, env: &Env, tokens: Rest) -> Result<SharedValue, MacroFault>
-    ensures { GivesValue result (value_or_bad (value_in env.now) (expression_of (toks tokens.now))) }
+    ensures { Gives unshared told result (value_or_bad (value_in env.now) (expression_of (toks tokens.now))) }
 {
     match level_of(alloc, 100, 6, tokens) {
         Ok((expr, rest)) => {
@@ -84,7 +85,7 @@ fn value_of_tokens(alloc: Global, env: &Env, tokens: Rest) -> Result<SharedValue
 // The value of an expression that was read.
 #[cycle(evaluation)]
 fn value_of(alloc: Global, env: &Env, expr: &Expr) -> Result<SharedValue, MacroFault>
-    ensures { GivesValue result (value_of (value_in env.now) (expr_of expr.now)) }
+    ensures { Gives unshared told result (value_of (value_in env.now) (expr_of expr.now)) }
 {
     match expr {
         Expr::Number(digits) => digits_value(digits),
@@ -104,7 +105,7 @@ fn value_of(alloc: Global, env: &Env, expr: &Expr) -> Result<SharedValue, MacroF
 // The array of these elements.
 #[cycle(evaluation)]
 fn array_of(alloc: Global, env: &Env, elements: &[Expr]) -> Result<SharedValue, MacroFault>
-    ensures { GivesValue result (array_value (values_of (value_in env.now) (after s.Empty elements.now))) }
+    ensures { Gives unshared told result (array_value (values_of (value_in env.now) (after s.Empty elements.now))) }
 {
     let mut found = Gathered::new(alloc);
     for element in elements {
@@ -121,7 +122,7 @@ fn after_steps(
     steps: &[Step],
     first: SharedValue,
 ) -> Result<SharedValue, MacroFault>
-    ensures { GivesValue result (steps_value (value_in env.now) (Ok (unshared first)) steps.now) }
+    ensures { Gives unshared told result (steps_value (value_in env.now) (Ok (unshared first)) steps.now) }
 {
     let mut found = first;
     for step in steps {
@@ -137,7 +138,7 @@ fn after_step(
     step: &Step,
     left: SharedValue,
 ) -> Result<SharedValue, MacroFault>
-    ensures { GivesValue result (step_value (value_in env.now) (Ok (unshared left)) step.now) }
+    ensures { Gives unshared told result (step_value (value_in env.now) (Ok (unshared left)) step.now) }
 {
     let value = match step {
         Step::Apply(operator, right) => apply(alloc, env, right, *operator, &left),
@@ -155,7 +156,7 @@ fn element_in(
     place: &Expr,
     array: &SharedValue,
 ) -> Result<SharedValue, MacroFault>
-    ensures { GivesValue result (index_value (Ok (unshared array.now)) (value_of (value_in env.now) (expr_of place.now))) }
+    ensures { Gives unshared told result (index_value (Ok (unshared array.now)) (value_of (value_in env.now) (expr_of place.now))) }
 {
     let place = value_of(alloc, env, place)?;
     let element = element_of(array, &place);
@@ -172,7 +173,7 @@ fn apply(
     operator: Operator,
     left: &SharedValue,
 ) -> Result<SharedValue, MacroFault>
-    ensures { GivesValue result (apply_value operator (Ok (unshared left.now)) (value_of (value_in env.now) (expr_of right.now))) }
+    ensures { Gives unshared told result (apply_value operator (Ok (unshared left.now)) (value_of (value_in env.now) (expr_of right.now))) }
 {
     match operator {
         Operator::Or => or_of(alloc, env, right, left),
@@ -194,7 +195,7 @@ fn or_of(
     right: &Expr,
     left: &SharedValue,
 ) -> Result<SharedValue, MacroFault>
-    ensures { GivesValue result (or_value (Ok (unshared left.now)) (value_of (value_in env.now) (expr_of right.now))) }
+    ensures { Gives unshared told result (or_value (Ok (unshared left.now)) (value_of (value_in env.now) (expr_of right.now))) }
 {
     if truth_of(left)? {
         return Ok(SharedValue::Truth(true));
@@ -210,7 +211,7 @@ fn and_of(
     right: &Expr,
     left: &SharedValue,
 ) -> Result<SharedValue, MacroFault>
-    ensures { GivesValue result (and_value (Ok (unshared left.now)) (value_of (value_in env.now) (expr_of right.now))) }
+    ensures { Gives unshared told result (and_value (Ok (unshared left.now)) (value_of (value_in env.now) (expr_of right.now))) }
 {
     if !truth_of(left)? {
         return Ok(SharedValue::Truth(false));

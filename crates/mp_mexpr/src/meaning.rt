@@ -1,10 +1,11 @@
 // What each operator makes of its operands.
 ghost use Rattle.std.specs.Prelude.{◌≡◌, ◌^◌, pos, false, Ok, neg_ℤ, ◌+ℤ◌, ◌-ℤ◌, ◌*ℤ◌, ◌≤ℤ◌};
 ghost use Rattle.std.specs.Option.{option_copied};
+ghost use Rattle.mp_base.specs.Answers.{Gives};
 ghost use Rattle.mp_mvalue.specs.Environments.{value_in};
-ghost use Rattle.mp_mvalue.specs.Gives.{Gives, GivesValue};
 ghost use Rattle.mp_mvalue.specs.Made.{made};
 ghost use Rattle.mp_mvalue.specs.Shared.{unshared, all_unshared};
+ghost use Rattle.mp_mvalue.specs.Told.{told};
 ghost use Rattle.mp_mexpr.specs.Meaning.{numbers_value, number, whole_of, truth_of, digits_value, known, negative_value, not_value, numbers_from, count_between, sum_value, strict_value, at_place, element_at, element_value, or_value};
 ghost use Rattle.mp_mvalue.specs.declared.value.Value.TheVariants as v;
 
@@ -22,7 +23,7 @@ pub(crate) fn refused<T>(kind: MacroKind) -> Result<T, MacroFault>
 
 // The number of a value.
 fn whole_of(value: &SharedValue) -> Result<i64, MacroFault>
-    ensures { Gives result (whole_of (unshared value.now)) }
+    ensures { Gives (λ n. n) told result (whole_of (unshared value.now)) }
 {
     match value {
         SharedValue::Whole(n) => Ok(*n),
@@ -32,7 +33,7 @@ fn whole_of(value: &SharedValue) -> Result<i64, MacroFault>
 
 /// A truth value, or a number, of which 0 is false; WrongKind for another value.
 pub fn truth_of(value: &SharedValue) -> Result<bool, MacroFault>
-    ensures { Gives result (truth_of (unshared value.now)) }
+    ensures { Gives (λ b. b) told result (truth_of (unshared value.now)) }
 {
     match value {
         SharedValue::Truth(b) => Ok(*b),
@@ -43,7 +44,7 @@ pub fn truth_of(value: &SharedValue) -> Result<bool, MacroFault>
 
 // What is true of the value, as a value.
 pub(crate) fn truth_value(value: SharedValue) -> Result<SharedValue, MacroFault>
-    ensures { GivesValue result (or_value (Ok (v.Truth false)) (Ok (unshared value))) }
+    ensures { Gives unshared told result (or_value (Ok (v.Truth false)) (Ok (unshared value))) }
 {
     let truth = truth_of(&value);
     drop(value);
@@ -51,7 +52,7 @@ pub(crate) fn truth_value(value: SharedValue) -> Result<SharedValue, MacroFault>
 }
 
 fn sum(left: i64, right: i64) -> Result<SharedValue, MacroFault>
-    ensures { GivesValue result (number (left +ℤ right)) }
+    ensures { Gives unshared told result (number (left +ℤ right)) }
 {
     match left.checked_add(right) {
         Some(n) => Ok(SharedValue::Whole(n)),
@@ -60,7 +61,7 @@ fn sum(left: i64, right: i64) -> Result<SharedValue, MacroFault>
 }
 
 fn difference(left: i64, right: i64) -> Result<SharedValue, MacroFault>
-    ensures { GivesValue result (number (left -ℤ right)) }
+    ensures { Gives unshared told result (number (left -ℤ right)) }
 {
     match left.checked_sub(right) {
         Some(n) => Ok(SharedValue::Whole(n)),
@@ -69,7 +70,7 @@ fn difference(left: i64, right: i64) -> Result<SharedValue, MacroFault>
 }
 
 fn product(left: i64, right: i64) -> Result<SharedValue, MacroFault>
-    ensures { GivesValue result (number (left *ℤ right)) }
+    ensures { Gives unshared told result (number (left *ℤ right)) }
 {
     match left.checked_mul(right) {
         Some(n) => Ok(SharedValue::Whole(n)),
@@ -78,7 +79,7 @@ fn product(left: i64, right: i64) -> Result<SharedValue, MacroFault>
 }
 
 fn negative(n: i64) -> Result<SharedValue, MacroFault>
-    ensures { GivesValue result (number (neg_ℤ n)) }
+    ensures { Gives unshared told result (number (neg_ℤ n)) }
 {
     match n.checked_neg() {
         Some(n) => Ok(SharedValue::Whole(n)),
@@ -88,7 +89,7 @@ fn negative(n: i64) -> Result<SharedValue, MacroFault>
 
 // The number that digits write.
 pub(crate) fn digits_value(digits: &[u8]) -> Result<SharedValue, MacroFault>
-    ensures { GivesValue result (digits_value digits.now) }
+    ensures { Gives unshared told result (digits_value digits.now) }
 {
     match number_up_to(i64::MAX as u64, digits) {
         Some(n) => Ok(SharedValue::Whole(n as i64)),
@@ -109,7 +110,7 @@ fn count_between(first: i64, last: i64) -> u128
 // The array of so many numbers from the first on, upwards.
 fn numbers_from(alloc: Global, first: i64, count: u32) -> Result<SharedValue, MacroFault>
     requires { (first +ℤ pos count) ≤ℤ pos (2 ^ 63) }
-    ensures { GivesValue result (made (numbers_from first count)) }
+    ensures { Gives unshared told result (made (numbers_from first count)) }
 {
     let mut numbers = Gathered::new(alloc);
     for k in 0..count {
@@ -119,7 +120,7 @@ fn numbers_from(alloc: Global, first: i64, count: u32) -> Result<SharedValue, Ma
 }
 
 fn range(alloc: Global, first: i64, last: i64) -> Result<SharedValue, MacroFault>
-    ensures { GivesValue result (made (numbers_from first (count_between first last))) }
+    ensures { Gives unshared told result (made (numbers_from first (count_between first last))) }
 {
     let count = count_between(first, last);
     if count > 100_000 {
@@ -131,7 +132,7 @@ fn range(alloc: Global, first: i64, last: i64) -> Result<SharedValue, MacroFault
 // Two numbers, two texts or two arrays.
 #[tactic(auto, using(crate::proofs::Operators::arrays))]
 fn add(alloc: Global, left: &SharedValue, right: &SharedValue) -> Result<SharedValue, MacroFault>
-    ensures { GivesValue result (sum_value (unshared left.now) (unshared right.now)) }
+    ensures { Gives unshared told result (sum_value (unshared left.now) (unshared right.now)) }
 {
     match (left, right) {
         (SharedValue::Whole(m), SharedValue::Whole(n)) => sum(*m, *n),
@@ -145,7 +146,7 @@ fn add(alloc: Global, left: &SharedValue, right: &SharedValue) -> Result<SharedV
 
 #[tactic(auto, using(crate::proofs::Operators::arrays))]
 fn is_in(value: &SharedValue, array: &SharedValue) -> Result<SharedValue, MacroFault>
-    ensures { GivesValue result (strict_value Operator.In (unshared value.now) (unshared array.now)) }
+    ensures { Gives unshared told result (strict_value Operator.In (unshared value.now) (unshared array.now)) }
 {
     match array {
         SharedValue::List(items) => Ok(SharedValue::Truth(is_among(
@@ -168,7 +169,7 @@ fn at_place(elements: &[SharedValue], place: i64) -> Option<&SharedValue>
 
 #[tactic(auto, using(crate::proofs::Operators::elements))]
 fn element_at(elements: &[SharedValue], place: i64) -> Result<SharedValue, MacroFault>
-    ensures { GivesValue result (element_at (all_unshared elements.now) place) }
+    ensures { Gives unshared told result (element_at (all_unshared elements.now) place) }
 {
     match at_place(elements, place) {
         Some(element) => Ok(copy(element)?),
@@ -182,7 +183,7 @@ pub(crate) fn element_of(
     array: &SharedValue,
     place: &SharedValue,
 ) -> Result<SharedValue, MacroFault>
-    ensures { GivesValue result (element_value (unshared array.now) (unshared place.now)) }
+    ensures { Gives unshared told result (element_value (unshared array.now) (unshared place.now)) }
 {
     match array {
         SharedValue::List(items) => element_at(items.as_ref().as_slice(), whole_of(place)?),
@@ -192,7 +193,7 @@ pub(crate) fn element_of(
 
 // The value of a name.
 pub(crate) fn name_value(env: &Env, name: &[u8]) -> Result<SharedValue, MacroFault>
-    ensures { GivesValue result (known (value_in env.now name.now)) }
+    ensures { Gives unshared told result (known (value_in env.now name.now)) }
 {
     match env.get(name) {
         Some(value) => Ok(copy(value)?),
@@ -207,7 +208,7 @@ pub(crate) fn strict_value(
     left: &SharedValue,
     right: &SharedValue,
 ) -> Result<SharedValue, MacroFault>
-    ensures { GivesValue result (strict_value operator (unshared left.now) (unshared right.now)) }
+    ensures { Gives unshared told result (strict_value operator (unshared left.now) (unshared right.now)) }
 {
     match operator {
         Operator::Equal => Ok(SharedValue::Truth(same(left, right))),
@@ -225,7 +226,7 @@ fn of_numbers(
     left: &SharedValue,
     right: &SharedValue,
 ) -> Result<SharedValue, MacroFault>
-    ensures { GivesValue result (numbers_value operator (unshared left.now) (unshared right.now)) }
+    ensures { Gives unshared told result (numbers_value operator (unshared left.now) (unshared right.now)) }
 {
     let m = whole_of(left)?;
     let n = whole_of(right)?;
@@ -242,7 +243,7 @@ fn of_numbers(
 }
 
 pub(crate) fn not_of(operand: SharedValue) -> Result<SharedValue, MacroFault>
-    ensures { GivesValue result (not_value (Ok (unshared operand))) }
+    ensures { Gives unshared told result (not_value (Ok (unshared operand))) }
 {
     let truth = truth_of(&operand);
     drop(operand);
@@ -250,7 +251,7 @@ pub(crate) fn not_of(operand: SharedValue) -> Result<SharedValue, MacroFault>
 }
 
 pub(crate) fn negative_of(operand: SharedValue) -> Result<SharedValue, MacroFault>
-    ensures { GivesValue result (negative_value (Ok (unshared operand))) }
+    ensures { Gives unshared told result (negative_value (Ok (unshared operand))) }
 {
     let number = whole_of(&operand);
     drop(operand);

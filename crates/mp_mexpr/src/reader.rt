@@ -1,6 +1,6 @@
 // From the tokens of an expression to its syntax.
-ghost use Rattle.std.specs.Prelude.{◌≡◌, IfOk, length};
-ghost use Rattle.mp_mexpr.specs.Tokens.{toks};
+ghost use Rattle.std.specs.Prelude.{◌≡◌, List, Option, IfOk, length};
+ghost use Rattle.mp_mexpr.specs.Tokens.{Tok, toks};
 ghost use Rattle.mp_mexpr.specs.Shown.{expr_of, after, all_stepped};
 ghost use Rattle.mp_mexpr.specs.Syntax as s;
 ghost use Rattle.mp_mexpr.specs.Gives.{Reads, Begins};
@@ -122,10 +122,7 @@ fn most(level: u8, tokens: Rest) -> usize
 fn boxed<'t>(alloc: Global, e: Expr<'t>) -> Result<Box<Expr<'t>>, NoMemory>
     ensures { IfOk result (λ b. expr_of b.value ≡ expr_of e.entry) }
 {
-    match Box::new(alloc, e) {
-        Ok(b) => Ok(b),
-        Err(_) => Err(NoMemory),
-    }
+    Ok(Box::new(alloc, e)?)
 }
 
 // An operand with its steps.
@@ -137,6 +134,19 @@ fn chained<'t>(alloc: Global, first: Expr<'t>, steps: Items<Step<'t>>) -> Result
         return Ok(first);
     }
     Ok(Expr::Chain(boxed(alloc, first)?, steps))
+}
+
+// An operand with the steps after it, where those were read.
+fn with_steps<'a, 't>(
+    alloc: Global,
+    first: Expr<'t>,
+    steps: Items<Step<'t>>,
+    rest: Result<Rest<'a, 't>, Unread>,
+) -> Result<(Expr<'t>, Rest<'a, 't>), Unread>
+    ensures { (read : Option (s.Expr × List Tok)) → Reads (λ r. (all_stepped (expr_of first.entry) steps.entry, toks r.now)) rest.entry read → Reads (λ x. (expr_of x.0, toks x.1.now)) result read }
+{
+    let rest = rest?;
+    Ok((chained(alloc, first, steps)?, rest))
 }
 
 // What stands in a bracket, where so many more may be open.
@@ -284,8 +294,8 @@ fn places_of<'a, 't>(
     ensures { Reads (λ x. (expr_of x.0, toks x.1.now)) result (repeated (length (toks tokens.now)) (past Mark.OpenBracket) (indexed (inside_at room)) (expr_of first.entry) (toks tokens.now)) }
 {
     let mut steps = Items::new(alloc);
-    let rest = add_places(alloc, room, tokens, &mut steps)?;
-    Ok((chained(alloc, first, steps)?, rest))
+    let rest = add_places(alloc, room, tokens, &mut steps);
+    with_steps(alloc, first, steps, rest)
 }
 
 // "[" expr "]", as long as there are.
@@ -361,8 +371,8 @@ fn chain_of<'a, 't>(
     ensures { Reads (λ x. (expr_of x.0, toks x.1.now)) result (repeated (most level (toks tokens.now)) (operator_at level) (applied (level_at (inside_at room) level)) (expr_of first.entry) (toks tokens.now)) }
 {
     let mut steps = Items::new(alloc);
-    let rest = add_operators(alloc, room, level, tokens, &mut steps)?;
-    Ok((chained(alloc, first, steps)?, rest))
+    let rest = add_operators(alloc, room, level, tokens, &mut steps);
+    with_steps(alloc, first, steps, rest)
 }
 
 // Operators of a level with their right operands, as long as there are.

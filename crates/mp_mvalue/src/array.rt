@@ -1,9 +1,10 @@
 // Arrays and texts that are made of others.
 ghost use Rattle.std.specs.Prelude.{◌≡◌, ◌++◌, ◌∷◌, [], ◌≤◌, length, min, not, ◌&&◌, nat_le, IfOk, OnOk, Err};
-ghost use Rattle.mp_mvalue.specs.Gives.{GivesValue};
+ghost use Rattle.mp_base.specs.Answers.{Gives};
 ghost use Rattle.mp_mvalue.specs.Made.{made, printable};
 ghost use Rattle.mp_mvalue.specs.Measures.{spread};
 ghost use Rattle.mp_mvalue.specs.Shared.{unshared, all_unshared};
+ghost use Rattle.mp_mvalue.specs.Told.{told};
 ghost use Rattle.mp_mvalue.specs.Values.{deepest};
 ghost use Rattle.mp_mvalue.specs.declared.value.Value.TheVariants as v;
 
@@ -116,10 +117,7 @@ pub(crate) fn array_of(
         deepest: depth,
         length: size,
     };
-    match Rc::new(alloc, array) {
-        Ok(array) => Ok(SharedValue::List(array)),
-        Err(_) => Err(NoMemory),
-    }
+    Ok(SharedValue::List(Rc::new(alloc, array)?))
 }
 
 // Whether both have too many elements together, or arrays too deep.
@@ -151,7 +149,7 @@ fn spread_of_both(left: &Array, right: &Array) -> u32
 /// elements are shared.
 #[tactic(auto, using(crate::proofs::Made::making))]
 pub fn join(alloc: Global, left: &Array, right: &Array) -> Result<SharedValue, MacroFault>
-    ensures { GivesValue result (made (left.now ++ right.now)) }
+    ensures { Gives unshared told result (made (left.now ++ right.now)) }
 {
     if are_over(left, right) {
         return refused(MacroKind::ArrayLimit);
@@ -166,7 +164,7 @@ pub fn join(alloc: Global, left: &Array, right: &Array) -> Result<SharedValue, M
 
 /// The text of both, within the limit of a printed value.
 pub fn join_texts(alloc: Global, left: &[u8], right: &[u8]) -> Result<SharedValue, MacroFault>
-    ensures { GivesValue result (printable (v.Text (left.now ++ right.now))) }
+    ensures { Gives unshared told result (printable (v.Text (left.now ++ right.now))) }
 {
     if left.len() > MOST_BYTES as usize || right.len() > MOST_BYTES as usize - left.len() {
         return refused(MacroKind::TextLimit);
@@ -174,8 +172,5 @@ pub fn join_texts(alloc: Global, left: &[u8], right: &[u8]) -> Result<SharedValu
     let mut text = Bytes::new(alloc);
     text.add(left)?;
     text.add(right)?;
-    match Rc::new(alloc, text) {
-        Ok(text) => Ok(SharedValue::Text(text)),
-        Err(_) => Err(MacroFault::NoMemory),
-    }
+    Ok(SharedValue::Text(Rc::new(alloc, text)?))
 }

@@ -26,10 +26,7 @@ pub fn text(alloc: Global, bytes: &[u8]) -> Result<SharedValue, NoMemory>
 {
     let mut copy = Bytes::new(alloc);
     copy.add(bytes)?;
-    match Rc::new(alloc, copy) {
-        Ok(text) => Ok(SharedValue::Text(text)),
-        Err(_) => Err(NoMemory),
-    }
+    Ok(SharedValue::Text(Rc::new(alloc, copy)?))
 }
 
 /// The value, to be shared.
@@ -41,10 +38,10 @@ pub fn shared(alloc: Global, value: &Value) -> Result<SharedValue, NoMemory>
         Value::Whole(n) => Ok(SharedValue::Whole(*n)),
         Value::Truth(b) => Ok(SharedValue::Truth(*b)),
         Value::Text(bytes) => text(alloc, bytes.as_slice()),
-        Value::List(values) => match Rc::new(alloc, shared_all(alloc, values.as_slice())?) {
-            Ok(array) => Ok(SharedValue::List(array)),
-            Err(_) => Err(NoMemory),
-        },
+        Value::List(values) => {
+            let array = shared_all(alloc, values.as_slice())?;
+            Ok(SharedValue::List(Rc::new(alloc, array)?))
+        }
     }
 }
 

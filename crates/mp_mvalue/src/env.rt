@@ -49,10 +49,8 @@ impl Env {
         ensures err { OnErr result (self.new ≡ self.old) }
     {
         let name = Vec::from_slice(self.alloc, name)?;
-        match self.values.insert(name, value) {
-            Ok(_) => Ok(()),
-            Err(_) => Err(NoMemory),
-        }
+        self.values.insert(name, value)?;
+        Ok(())
     }
 
     /// The value of the name, or None exactly where it has none.

@@ -1,7 +1,7 @@
 // Why an expression has no value.
 
 use mp_base::{MacroKind, NoMemory};
-use std::alloc::AllocError;
+use std::alloc::{AllocError, AllocFailed};
 use thiserror::Error;
 
 /// Why an expression has no value, or that there was no memory.
@@ -31,6 +31,17 @@ impl From<AllocError> for MacroFault {
     ghost from_gives = { λ _ e. e ≡ NoMemory };
 
     fn from(_: AllocError) -> Self {
+        MacroFault::NoMemory
+    }
+}
+
+impl<T: Drop> From<AllocFailed<T>> for MacroFault {
+    ghost use Rattle.std.specs.Prelude.{◌≡◌};
+    ghost use Rattle.mp_mvalue.specs.declared.fault.MacroFault.TheVariants.{NoMemory};
+
+    ghost from_gives = { λ _ e. e ≡ NoMemory };
+
+    fn from(_: AllocFailed<T>) -> Self {
         MacroFault::NoMemory
     }
 }

@@ -1,9 +1,10 @@
 // The elements of an array that is being made.
 ghost use Rattle.std.specs.Prelude.{◌≡◌, ◌+◌, ◌++◌, ◌∷◌, [], min, nat_le, ◌&&◌, List, true, IfOk};
+ghost use Rattle.mp_base.specs.Answers.{Gives};
 ghost use Rattle.mp_mvalue.specs.Gathers.{Gathers};
-ghost use Rattle.mp_mvalue.specs.Gives.{GivesValue};
 ghost use Rattle.mp_mvalue.specs.Made.{made};
 ghost use Rattle.mp_mvalue.specs.Shared.{unshared, all_unshared};
+ghost use Rattle.mp_mvalue.specs.Told.{told};
 ghost use Rattle.mp_mvalue.specs.declared.value.Value.{Value as Plain};
 
 use crate::array::{DEEPEST, MOST_BYTES, MOST_ELEMENTS, array_of, refused};
@@ -56,7 +57,7 @@ impl Gathered {
     /// The array of the elements, within the limits of arrays and then of their printed length.
     pub fn finish(self, alloc: Global) -> Result<SharedValue, MacroFault>
         requires { (xs : List Plain) × Gathers self xs }
-        ensures { (xs : List Plain) → Gathers self xs → GivesValue result (made xs) }
+        ensures { (xs : List Plain) → Gathers self xs → Gives unshared told result (made xs) }
     {
         if self.count > MOST_ELEMENTS || self.deepest > DEEPEST {
             return refused(MacroKind::ArrayLimit);

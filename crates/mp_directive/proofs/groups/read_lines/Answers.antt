@@ -1,10 +1,11 @@
 use Rattle.std.proofs.Common.{◌+◌, ◌-◌, sym, ap, ◌∙◌, arith, subst, length}
 use Rattle.std.proofs.lemmas.Bool.Decides.{Decides-eqb}
 use Rattle.std.proofs.lemmas.Result.{err_from_is_err_and}
+use Rattle.mp_base.specs.Answers.{Gives}
 use Rattle.mp_directive.specs.Lines.{lines}
 use Rattle.mp_directive.specs.Tree.{is_alone}
 use Rattle.mp_directive.specs.Groups.{after_line}
-use Rattle.mp_directive.specs.Gives.{reading_of, Gives}
+use Rattle.mp_directive.specs.Gives.{reading_of, told_kind}
 use Rattle.mp_directive.proofs.Weights.{line-grows-by, run-grows}
 use Rattle.mp_directive.proofs.Turns.{turn-ok, run-turn, placed-ok, placed-err, ends}
 use Rattle.mp_directive.proofs.groups.read_lines.Goals as goal
@@ -12,13 +13,13 @@ use Rattle.mp_directive.proofs.groups.read_lines.Goals as goal
 pub returns-in_err-reader-2-clause-tree : goal.returns-in_err-reader-2-clause-tree
 returns-in_err-reader-2-clause-tree c =
     let p = err_from_is_err_and c.from_residual-in_err-reader-2.result c.from_residual-in_err-reader-2.ensures.1 in
-    let read = subst (λ x. Gives reading_of c.after.result (after_line c.lines.line x (reading_of c.lines.reader))) c.content_of-content.ensures c.after.ensures in
-    rw (p.1, p.2) (placed-err c.after.result c.lines.line c.lines.rest.now c.first_line.result.0.now c.first_line.result.1.now (reading_of c.lines.reader) _ c.args.text.now c.in_err-reader-2.ensures read c.first_line.ensures.value c.lines.invariant.told)
+    let read = subst (λ x. Gives reading_of told_kind c.after.result (after_line c.lines.line x (reading_of c.lines.reader))) c.content_of-content.ensures c.after.ensures in
+    rw (p.1, p.2) (placed-err c.lines.line c.lines.rest.now c.first_line.result.0.now c.first_line.result.1.now (reading_of c.lines.reader) _ c.args.text.now (c.in_err-reader-2.ensures _ read) c.first_line.ensures.value c.lines.invariant.told)
 
 pub lines-preserved : goal.lines-preserved
 lines-preserved c =
-    let read = subst (λ x. Gives reading_of c.after.result (after_line c.lines.line x (reading_of c.lines.reader))) c.content_of-content.ensures c.after.ensures in
-    let step = placed-ok c.after.result c.lines.line c.in_ok-reader-2.reader _ c.in_ok-reader-2.ensures read in
+    let read = subst (λ x. Gives reading_of told_kind c.after.result (after_line c.lines.line x (reading_of c.lines.reader))) c.content_of-content.ensures c.after.ensures in
+    let step = placed-ok c.lines.line c.in_ok-reader-2.reader _ (c.in_ok-reader-2.ensures _ read) in
     record {
       counted = omega (arith, c.first_line.ensures.fewer, c.lines.invariant.counted);
       few = omega (arith, c.first_line.ensures.fewer, c.lines.invariant.few, line-grows-by c.lines.line _ (reading_of c.lines.reader) (reading_of c.in_ok-reader-2.reader) step);

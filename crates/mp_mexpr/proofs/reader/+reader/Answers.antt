@@ -58,21 +58,11 @@ add_places-turns-preserved t c = λ first.
 
 pub chain_of-returns : goal.chain_of-returns
 chain_of-returns t c =
-    (rw c.new-steps.ensures at c.in_ok-rest.ensures (expr_of c.args.first)) ∙ ap (λ e. Some (e, toks c.in_ok-rest.rest.now)) (sym c.in_ok-chained.ensures)
-
-pub chain_of-returns-in_err-rest : goal.chain_of-returns-in_err-rest
-chain_of-returns-in_err-rest t c =
-    let q = err_from_is_err_and c.from_residual.result c.from_residual.ensures.1 in
-    rw (q.1, q.2) (Reads-fails (seen_rest (expr_of c.args.first)) seen_expr c.in_err-rest.field-0.0 _ _ (λ none. none) (rw c.new-steps.ensures at c.in_err-rest.ensures (expr_of c.args.first)))
+    c.with_steps.ensures _ (rw c.new-steps.ensures at c.add_operators-rest.ensures (expr_of c.args.first))
 
 pub places_of-returns : goal.places_of-returns
 places_of-returns t c =
-    (rw c.new-steps.ensures at c.in_ok-rest.ensures (expr_of c.args.first)) ∙ ap (λ e. Some (e, toks c.in_ok-rest.rest.now)) (sym c.in_ok-chained.ensures)
-
-pub places_of-returns-in_err-rest : goal.places_of-returns-in_err-rest
-places_of-returns-in_err-rest t c =
-    let q = err_from_is_err_and c.from_residual.result c.from_residual.ensures.1 in
-    rw (q.1, q.2) (Reads-fails (seen_rest (expr_of c.args.first)) seen_expr c.in_err-rest.field-0.0 _ _ (λ none. none) (rw c.new-steps.ensures at c.in_err-rest.ensures (expr_of c.args.first)))
+    c.with_steps.ensures _ (rw c.new-steps.ensures at c.add_places-rest.ensures (expr_of c.args.first))
 
 pub more_elements-returns-in_default : goal.more_elements-returns-in_default
 more_elements-returns-in_default t c =
