@@ -1,3 +1,5 @@
+pub mod BoundSteps
+pub mod Bounded
 pub mod Have
 pub mod Levels
 pub mod Heights

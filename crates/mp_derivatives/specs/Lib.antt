@@ -1,3 +1,4 @@
+pub mod Bound
 pub mod Grammar
 pub mod Meant
 pub mod Records

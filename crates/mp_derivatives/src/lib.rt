@@ -2,6 +2,7 @@
 //! read back. Definitions and laws; the functions here state the laws, and do nothing.
 #![tactic(auto)]
 
+pub mod bound;
 pub mod given;
 
 ghost use Rattle.std.specs.Prelude.{ℕ};
@@ -13,6 +14,7 @@ ghost use Rattle.mp_derivatives.specs.Meant.{IsPrintableDerivative, MeansTerm, t
 ghost use Rattle.mp_derivatives.specs.Derivatives.{derivatives_text};
 ghost use Rattle.mp_derivatives.specs.Listed.{ListsDerivatives};
 
+pub use bound::bound_law;
 pub use given::{given_law, listed_law};
 
 /// The canonical text of an expression that can be written, `pick` allowed, reads back, without a limit of parentheses, as

@@ -1,5 +1,5 @@
 -- The derivatives of the residuals of equations are those of the equations.
-use Rattle.std.proofs.Common.{◌≡◌, ℕ, suc, ◌^◌, ◌<◌, ◌≤◌, min, List, [], ◌∷◌, ◌++◌, length, map, refl, ap, sym, ◌∙◌, subst, arith}
+use Rattle.std.proofs.Common.{◌≡◌, ℕ, suc, ◌<◌, List, [], ◌∷◌, ◌++◌, length, map, refl, ap, sym, ◌∙◌, subst}
 use Rattle.std.specs.List.{AllByRecursion, sum_by}
 use Rattle.mp_semantics.specs.Term.{Term}
 use Rattle.mp_semantics.specs.Model.{Equation}
@@ -22,17 +22,13 @@ residuals_have : (es : List Equation) → AllByRecursion SidesHaveDerivatives es
 residuals_have [] h = tt
 residuals_have (e ∷ es) h = (h.0, residuals_have es h.1)
 
-pub is_few : (n count : ℕ) → count ≡ min n (10 ^ 37) → count ≤ 2000000 → n ≤ 2000000
-is_few n count is small = omega arith
-
 -- these terms are the residuals of the equations
 module _ (es : List Equation) (ts : List Term) (are : ts ≡ map residual es) where
   pub have : AllByRecursion SidesHaveDerivatives es → AllByRecursion HasDerivative ts
   have h = subst (AllByRecursion HasDerivative) (sym are) (residuals_have es h)
 
-  pub counted : (count : ℕ) → count ≡ min (sum_by all_operations ts) (10 ^ 37) → count ≡ min (operations (derivatives_from 1 es)) (10 ^ 37)
-  counted count is =
-      is ∙ ap (λ (n : ℕ). min n (10 ^ 37)) (ap (sum_by all_operations) are ∙ sym (operations_are 1 (map residual es)) ∙ ap operations (sym (from_residuals 1 es)))
+  pub counted : sum_by all_operations ts ≡ operations (derivatives_from 1 es)
+  counted = ap (sum_by all_operations) are ∙ sym (operations_are 1 (map residual es)) ∙ ap operations (sym (from_residuals 1 es))
 
   pub all_are : (old new : Names) (ds : List Derivation) → new ≡ old → ds ≡ map (derivation new) (derivatives_by 1 ts) → ds ≡ map (derivation old) (derivatives_from 1 es)
   all_are old new ds names all =

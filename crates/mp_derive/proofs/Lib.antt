@@ -1,3 +1,5 @@
+pub mod Stands
+pub mod Capped
 pub mod Counts
 pub mod Ahead
 pub mod Roots

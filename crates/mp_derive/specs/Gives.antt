@@ -1,8 +1,8 @@
 -- What an answer says of derivatives.
 use Rattle.std.specs.Prelude.{◌≡◌, ◌<◌, ◌≤◌, ◌^◌, ℕ, List, min, Result, Ok, Err}
-use Rattle.mp_semantics.specs.Model.{Model, Equation}
+use Rattle.mp_semantics.specs.Model.{Model}
 use Rattle.mp_derivatives.specs.Records.{Derivation}
-use Rattle.mp_derivatives.specs.Derivatives.{derivations, derivatives_from, operations}
+use Rattle.mp_derivatives.specs.Derivatives.{derivations}
 use Rattle.mp_derivatives.specs.Derived.{derived}
 use Rattle.mp_derive.specs.declared.fault.DeriveFault.{DeriveFault}
 use Rattle.mp_derive.specs.declared.fault.DeriveFault.TheVariants.{Large, NoMemory}
@@ -22,12 +22,12 @@ abbrev pub Tests : {X : Type 0} → Result X DeriveFault → Model → Type 0
 Tests (Ok x) M = derived M ≡ Ok (derivations M)
 Tests (Err fault) M = Fails fault (derived M)
 
--- the derivatives of these equations have this many operations, which are too many; want of memory says nothing
-abbrev pub AreMany : DeriveFault → List Equation → Type 0
-AreMany (Large count) es = (count ≡ min (operations (derivatives_from 1 es)) (10 ^ 37)) × (2000000 < count)
-AreMany NoMemory es = Unit {0}
+-- of so many operations this many are told, which are too many; want of memory says nothing
+abbrev pub AreMany : DeriveFault → ℕ → Type 0
+AreMany (Large count) n = (count ≡ min n (10 ^ 37)) × (2000000 < count)
+AreMany NoMemory n = Unit {0}
 
--- they have few enough, or too many
-abbrev pub AreFew : {X : Type 0} → Result X DeriveFault → List Equation → Type 0
-AreFew (Ok x) es = operations (derivatives_from 1 es) ≤ 2000000
-AreFew (Err fault) es = AreMany fault es
+-- so many operations are few enough, or too many
+abbrev pub AreFew : {X : Type 0} → Result X DeriveFault → ℕ → Type 0
+AreFew (Ok x) n = n ≤ 2000000
+AreFew (Err fault) n = AreMany fault n

@@ -1,3 +1,4 @@
 pub mod Counted
+pub mod Extent
 pub mod Listed
 pub mod Gives

@@ -6,7 +6,7 @@ ghost use Rattle.mp_graph.specs.Shared.{term_at, Keeps};
 ghost use Rattle.mp_slopes.specs.Derivative.{HasDerivative};
 ghost use Rattle.mp_diff.specs.Places.{place_shown};
 ghost use Rattle.mp_model_data.specs.Shown.{IsWithin, equation_in, model_data, sides_of};
-ghost use Rattle.mp_derivatives.specs.Derivatives.{derivation, derivatives_from, derivatives_of};
+ghost use Rattle.mp_derivatives.specs.Derivatives.{derivation, derivatives_from, derivatives_of, operations};
 ghost use Rattle.mp_derivatives.specs.Derived.{HaveDerivatives, SidesHaveDerivatives, derived};
 ghost use Rattle.mp_derive.specs.Gives.{AreFew, Gives, Tests};
 ghost use Rattle.mp_derive.specs.Listed.{derivative_by, derivatives_by};
@@ -63,7 +63,7 @@ fn derivatives_in<'t>(
 ) -> Result<Derivatives<'t>, DeriveFault>
     requires within { AllByRecursion (IsWithin graph.old) (map sides_of equations.now) }
     requires has { AllByRecursion SidesHaveDerivatives (map (equation_in graph.old.terms) (map sides_of equations.now)) }
-    ensures few { AreFew result (map (equation_in graph.old.terms) (map sides_of equations.now)) }
+    ensures few { AreFew result (operations (derivatives_from 1 (map (equation_in graph.old.terms) (map sides_of equations.now)))) }
     ensures all { IfOk result (λ ds. ds ≡ map (derivation graph.old.names) (derivatives_from 1 (map (equation_in graph.old.terms) (map sides_of equations.now)))) }
 {
     let roots = few_enough(alloc, graph, equations)?;

@@ -2,8 +2,10 @@
 //! in it.
 #![tactic(auto)]
 
+pub mod bound;
 pub mod count;
 pub mod derive;
+pub mod extent;
 pub mod fault;
 pub mod few;
 pub mod residual;
