@@ -1,13 +1,11 @@
 -- The pieces of a line, one after the other.
 use Rattle.std.proofs.Common.{◌≡◌, ℕ, zero, suc, ◌+◌, List, [], ◌∷◌, ◌++◌, take, drop, Option, Some, None, Ok, Err, false, refl, sym, ap, subst, ◌∙◌, arith}
 use Rattle.std.proofs.lemmas.Grind.{common_steps}
+use Rattle.mp_base.specs.Answers.{Refuses}
+use Rattle.mp_base.specs.declared.kinds.MacroKind.{MacroKind}
 use Rattle.mp_base.specs.declared.kinds.MacroKind.TheVariants as k
 use Rattle.mp_directive.specs.Results.{◌>>=◌}
-use Rattle.mp_mvalue.specs.declared.fault.MacroFault.{MacroFault}
-use Rattle.mp_mvalue.specs.declared.fault.MacroFault.TheVariants as f
 use Rattle.mp_macro.specs.Plain.{Piece, Verbatim, Expression, mark_at, end_at, expression_then, pieces_by, pieces_from, pieces}
-use Rattle.mp_macro.specs.Says.{Makes}
-use Rattle.mp_macro.specs.declared.state.State as c
 use Rattle.mp_macro.specs.States.{State, Outcome, after_piece, after_pieces, written}
 
 skip : (bs : List ℕ) (n : ℕ) → pieces_from bs n ≡ pieces (drop n bs)
@@ -45,13 +43,13 @@ pieces-last [] m = refl
 pieces-last (b ∷ bs) m = ap (λ x. pieces_by (b ∷ bs) x (pieces_from bs)) m
 
 -- a step that is refused ends the line
-pub makes-err : (m n : c.State) (e : MacroFault) (step : Outcome) (next : State → Outcome) → Makes m (Err e) step → Makes n (Err e) (step >>= next)
-makes-err m n (f.Refused kind) step next h = ap (λ x. x >>= next) h
-makes-err m n f.NoMemory step next h = tt
+refuses-next : (r : Option MacroKind) (step : Outcome) (next : State → Outcome) → Refuses r step → Refuses r (step >>= next)
+refuses-next (Some kind) step next h = ap (λ x. x >>= next) h
+refuses-next None step next h = tt
 
-pub line-err : (m n : c.State) (e : MacroFault) (rest : List ℕ) (k : ℕ) (s : State) (t : Outcome) → mark_at rest ≡ Some k → Makes m (Err e) (written (take k rest) s) → after_pieces (pieces rest) s ≡ t → Makes n (Err e) t
-line-err m n e rest k s t mark h told =
-    subst (Makes n (Err e)) (ap (λ ps. after_pieces ps s) (sym (pieces-mark rest k mark)) ∙ told) (makes-err m n e (written (take k rest) s) (after_pieces (rest_of (drop (k + 2) rest))) h)
+pub line-err : (r : Option MacroKind) (rest : List ℕ) (k : ℕ) (s : State) (t : Outcome) → mark_at rest ≡ Some k → Refuses r (written (take k rest) s) → after_pieces (pieces rest) s ≡ t → Refuses r t
+line-err r rest k s t mark h told =
+    subst (Refuses r) (ap (λ ps. after_pieces ps s) (sym (pieces-mark rest k mark)) ∙ told) (refuses-next r (written (take k rest) s) (after_pieces (rest_of (drop (k + 2) rest))) h)
 
 pub line-piece : (rest after : List ℕ) (k : ℕ) (s s' : State) (t : Outcome) → mark_at rest ≡ Some k → after ≡ drop (k + 2) rest → written (take k rest) s ≡ Ok s' → after_pieces (pieces rest) s ≡ t → after_pieces (rest_of after) s' ≡ t
 line-piece rest after k s s' t mark a h told =
@@ -60,9 +58,9 @@ line-piece rest after k s s' t mark a h told =
 pub line-open : (after : List ℕ) (s : State) (t : Outcome) → end_at false after ≡ None → after_pieces (rest_of after) s ≡ t → t ≡ Err k.BadExpression
 line-open after s t none told = sym told ∙ ap (λ o. after_pieces (expression_then after o (λ n. pieces (drop n after))) s) none
 
-pub value-err : (m n : c.State) (e : MacroFault) (after : List ℕ) (k : ℕ) (s : State) (t : Outcome) → end_at false after ≡ Some k → Makes m (Err e) (after_piece (Expression (take k after)) s) → after_pieces (rest_of after) s ≡ t → Makes n (Err e) t
-value-err m n e after k s t end h told =
-    subst (Makes n (Err e)) (ap (λ o. after_pieces (expression_then after o (λ n. pieces (drop n after))) s) (sym end) ∙ told) (makes-err m n e (after_piece (Expression (take k after)) s) (after_pieces (pieces (drop (k + 1) after))) h)
+pub value-err : (r : Option MacroKind) (after : List ℕ) (k : ℕ) (s : State) (t : Outcome) → end_at false after ≡ Some k → Refuses r (after_piece (Expression (take k after)) s) → after_pieces (rest_of after) s ≡ t → Refuses r t
+value-err r after k s t end h told =
+    subst (Refuses r) (ap (λ o. after_pieces (expression_then after o (λ n. pieces (drop n after))) s) (sym end) ∙ told) (refuses-next r (after_piece (Expression (take k after)) s) (after_pieces (pieces (drop (k + 1) after))) h)
 
 pub value-next : (after next : List ℕ) (k : ℕ) (s s' : State) (t : Outcome) → end_at false after ≡ Some k → next ≡ drop (k + 1) after → after_piece (Expression (take k after)) s ≡ Ok s' → after_pieces (rest_of after) s ≡ t → after_pieces (pieces next) s' ≡ t
 value-next after next k s s' t end n h told =

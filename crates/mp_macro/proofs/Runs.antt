@@ -12,11 +12,13 @@ use Rattle.mp_directive.proofs.Trees.{nodes-first}
 use Rattle.mp_directive.proofs.Weights.{joined-weight}
 use Rattle.mp_macro.specs.States.{State, after_alone}
 use Rattle.mp_macro.specs.Expansion.{Macro, Including, Step, at, after_node, after_nodes, include}
-use Rattle.mp_macro.specs.Says.{state_of, Makes, Placed, Told, Says, SaysHere}
+use Rattle.mp_base.specs.Answers.{Gives}
+use Rattle.mp_mvalue.specs.Told.{told}
+use Rattle.mp_macro.specs.Says.{state_of, Placed, Told, Says, SaysHere}
 use Rattle.mp_macro.specs.declared.fault.Stop.{Stop}
 use Rattle.mp_macro.specs.declared.fault.Stop.TheVariants as s
 use Rattle.mp_macro.specs.declared.state.State as c
-use Rattle.mp_macro.proofs.Steps.{makes-refused, says-after, stops}
+use Rattle.mp_macro.proofs.Steps.{gives-refused, says-after, stops}
 
 -- a step and then the next, regrouped
 regroup : (r : Step) (f g : State → Step) → ((r >>= f) >>= g) ≡ (r >>= λ x. f x >>= g)
@@ -71,16 +73,16 @@ run-none line (suc n) [] e = refl
 run-none line n (b ∷ bs) e = cc
 
 -- a line of a run that is refused
-pub run-stops : (including : Including) (file : List ℕ) (line end : ℕ) (rest here more : List ℕ) (new : c.State) (answer : Result (Unit {0}) MacroFault) (z : State) (all : Step) (e : Stop) → line < end → lines rest ≡ here ∷ lines more → Makes new answer (after_alone (d.content_of here) z) → Placed answer file line (Err e) → after_nodes including file (run_before line (end - line) (lines rest) Done) z ≡ all → SaysHere new (Err e) all
+pub run-stops : (including : Including) (file : List ℕ) (line end : ℕ) (rest here more : List ℕ) (new : c.State) (answer : Result (Unit {0}) MacroFault) (z : State) (all : Step) (e : Stop) → line < end → lines rest ≡ here ∷ lines more → Gives (λ u. state_of new) told answer (after_alone (d.content_of here) z) → Placed answer file line (Err e) → after_nodes including file (run_before line (end - line) (lines rest) Done) z ≡ all → SaysHere {Y = Unit {0}} (λ u. state_of new) (Err e) all
 run-stops including file line end rest here more new answer z all (s.Macro kind g m) lt split made placed told =
-    let refused : at file line (after_alone (d.content_of here) z) ≡ Err (Macro kind g m) = ap (at file line) (makes-refused new answer (after_alone (d.content_of here) z) made kind placed.0) ∙ ap (λ x. Err (Macro kind x line)) (sym placed.1) ∙ ap (λ x. Err (Macro kind g x)) (sym placed.2) in
+    let refused : at file line (after_alone (d.content_of here) z) ≡ Err (Macro kind g m) = ap (at file line) (gives-refused (λ u. state_of new) answer (after_alone (d.content_of here) z) made kind placed.0) ∙ ap (λ x. Err (Macro kind x line)) (sym placed.1) ∙ ap (λ x. Err (Macro kind g x)) (sym placed.2) in
     sym told ∙ run-first including file line end rest here more z lt split ∙ ap (λ r. r >>= after_nodes including file (run_before (line + 1) (end - (line + 1)) (lines more) Done)) refused
 run-stops including file line end rest here more new answer z all (s.Absent name) lt split made placed told = absurd placed
 run-stops including file line end rest here more new answer z all (s.ReadFault count) lt split made placed told = absurd placed
 run-stops including file line end rest here more new answer z all s.NoMemory lt split made placed told = tt
 
 -- what was carried out without an include says the same of all files
-pub here-says : (new : c.State) (a : Outside) (gives : Listing → Step) (r : Result (Unit {0}) Stop) → ((l : Listing) → SaysHere new r (gives l)) → Says (state_of new) a a gives r
+pub here-says : (new : c.State) (a : Outside) (gives : Listing → Step) (r : Result (Unit {0}) Stop) → ((l : Listing) → SaysHere (λ u. state_of new) r (gives l)) → Says (state_of new) a a gives r
 here-says new a gives (Ok u) h = λ l told. h l
 here-says new a gives (Err (s.Macro kind file line)) h = λ l told. h l
 here-says new a gives (Err (s.Absent name)) h = absurd (h [])

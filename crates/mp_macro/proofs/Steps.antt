@@ -1,9 +1,10 @@
 -- What parts of a file say one after the other.
 use Rattle.std.proofs.Common.{◌≡◌, ℕ, zero, suc, ◌+◌, ◌-◌, ◌≤◌, min, List, [], ◌∷◌, length, Result, Ok, Err, Some, true, refl, sym, ap, ◌∙◌, subst, arith, if◌then◌else◌}
+use Rattle.mp_base.specs.Answers.{Gives}
 use Rattle.mp_base.specs.declared.kinds.MacroKind.{MacroKind}
 use Rattle.mp_base.specs.declared.kinds.MacroKind.TheVariants as k
 use Rattle.mp_outside.specs.Outside.{Outside, Listing, Later, lookup}
-use Rattle.mp_mvalue.specs.Gives as x
+use Rattle.mp_mvalue.specs.Told.{told}
 use Rattle.mp_mvalue.specs.declared.value.Value.{Value}
 use Rattle.mp_mvalue.specs.declared.fault.MacroFault.{MacroFault}
 use Rattle.mp_mvalue.specs.declared.fault.MacroFault.TheVariants as f
@@ -14,7 +15,7 @@ use Rattle.mp_directive.specs.Shown.{nodes_of}
 use Rattle.mp_directive.specs.Groups.{groups}
 use Rattle.mp_macro.specs.States.{State, Outcome, counted, named, holds, elements, turn_begun}
 use Rattle.mp_macro.specs.Expansion.{Refusal, Macro, Including, Step, at, turns, restored, after_node, after_nodes, after_branches, tree, after_file, contents, include}
-use Rattle.mp_macro.specs.Says.{state_of, Makes, GivesPart, Placed, Refuses, Gives, Told, Says}
+use Rattle.mp_macro.specs.Says.{state_of, Placed, Refuses, SaysHere, Told, Says}
 use Rattle.mp_macro.specs.declared.fault.Stop.{Stop}
 use Rattle.mp_macro.specs.declared.fault.Stop.TheVariants as s
 use Rattle.mp_macro.specs.declared.state.State as c
@@ -54,17 +55,14 @@ refused answer meant n b c file line (s.Absent name) same p = absurd p
 refused answer meant n b c file line (s.ReadFault count) same p = absurd p
 refused answer meant n b c file line s.NoMemory same p = tt
 
-pub makes-refused : (new : c.State) (answer : Result (Unit {0}) MacroFault) (meant : Outcome) → Makes new answer meant → (kind : MacroKind) → answer ≡ Err (f.Refused kind) → meant ≡ Err kind
-makes-refused new answer meant h kind e = subst (λ a. Makes new a meant) e h
+pub gives-refused : {X Y : Type 0} (view : Y → X) (answer : Result Y MacroFault) (meant : Result X MacroKind) → Gives view told answer meant → (kind : MacroKind) → answer ≡ Err (f.Refused kind) → meant ≡ Err kind
+gives-refused view answer meant h kind e = subst (λ a. Gives view told a meant) e h
 
-pub makes-ok : (new : c.State) (answer : Result (Unit {0}) MacroFault) (meant : Outcome) (u : Unit {0}) → Makes new answer meant → answer ≡ Ok u → meant ≡ Ok (state_of new)
-makes-ok new answer meant u h e = subst (λ a. Makes new a meant) e h
-
-pub gives-refused : {X : Type 0} (answer : Result X MacroFault) (meant : Result X MacroKind) → x.Gives answer meant → (kind : MacroKind) → answer ≡ Err (f.Refused kind) → meant ≡ Err kind
-gives-refused answer meant h kind e = subst (λ a. x.Gives a meant) e h
+pub gives-ok : {X Y : Type 0} (view : Y → X) (answer : Result Y MacroFault) (meant : Result X MacroKind) (y : Y) → Gives view told answer meant → answer ≡ Ok y → meant ≡ Ok (view y)
+gives-ok view answer meant y h e = subst (λ a. Gives view told a meant) e h
 
 -- a refusal of a file's own
-pub own : {X Y : Type 0} (view : Y → X) (meant : Result X Refusal) (n : X) (b c : Outside) (e : Stop) → Gives view (Err e) meant → Says n b c (λ l. meant) (Err e)
+pub own : {X Y : Type 0} (view : Y → X) (meant : Result X Refusal) (n : X) (b c : Outside) (e : Stop) → SaysHere view (Err e) meant → Says n b c (λ l. meant) (Err e)
 own view meant n b c (s.Macro kind file line) h = λ l told. h
 own view meant n b c (s.Absent name) h = absurd h
 own view meant n b c (s.ReadFault count) h = absurd h
@@ -103,12 +101,12 @@ include-is l (suc room) file line name s some =
 abbrev pub opened : Listing → ℕ → List ℕ → State → List ℕ → Step
 opened l room name t bytes = after_file (include l (room - 1)) name bytes t
 
-pub count-stops : (a : Outside) (room : ℕ) (file : List ℕ) (line : ℕ) (name : List ℕ) (z : State) (new : c.State) (answer : Result (Unit {0}) MacroFault) (e : Stop) → (room ≡ 0 → ⊥) → Makes new answer (counted z) → Placed answer file line (Err e) → Says z a a (λ l. include l room file line name z) (Err e)
+pub count-stops : (a : Outside) (room : ℕ) (file : List ℕ) (line : ℕ) (name : List ℕ) (z : State) (new : c.State) (answer : Result (Unit {0}) MacroFault) (e : Stop) → (room ≡ 0 → ⊥) → Gives (λ u. state_of new) told answer (counted z) → Placed answer file line (Err e) → Says z a a (λ l. include l room file line name z) (Err e)
 count-stops a room file line name z new answer e some made placed =
     let next : Listing → State → Step = λ l t. contents (lookup l name) name file line >>= opened l room name t in
     let first : Listing → Step = λ l. at file line (counted z) in
     says-after z a a a (λ l. first l >>= next l) (λ l. include l room file line name z) (Err e) (later-refl a) (λ l told. include-is l room file line name z some)
-    (stops z z a a first next e (refused answer (counted z) z a a file line e (makes-refused new answer (counted z) made) placed))
+    (stops z z a a first next e (refused answer (counted z) z a a file line e (gives-refused (λ u. state_of new) answer (counted z) made) placed))
 
 pub include-counted : (l : Listing) (room : ℕ) (file : List ℕ) (line : ℕ) (name : List ℕ) (z t : State) → (room ≡ 0 → ⊥) → counted z ≡ Ok t → include l room file line name z ≡ (contents (lookup l name) name file line >>= opened l room name t)
 include-counted l room file line name z t some made =
@@ -120,7 +118,7 @@ fetch-stops a b room file line name z t into e some made says =
     let next : Listing → List ℕ → Step = λ l. opened l room name t in
     says-after z a a b (λ l. first l >>= next l) (λ l. include l room file line name z) (Err e) (later-refl a) (λ l told. include-counted l room file line name z t some made) (stops into z a b first next e says)
 
-pub tree-stops : (a b : Outside) (room : ℕ) (file : List ℕ) (line : ℕ) (name : List ℕ) (z t : State) (bytes : List ℕ) (e : Stop) → (room ≡ 0 → ⊥) → counted z ≡ Ok t → Told a (λ l. contents (lookup l name) name file line) (Ok bytes) → Gives nodes_of (Err e) (tree name (groups bytes)) → Says z a b (λ l. include l room file line name z) (Err e)
+pub tree-stops : (a b : Outside) (room : ℕ) (file : List ℕ) (line : ℕ) (name : List ℕ) (z t : State) (bytes : List ℕ) (e : Stop) → (room ≡ 0 → ⊥) → counted z ≡ Ok t → Told a (λ l. contents (lookup l name) name file line) (Ok bytes) → SaysHere nodes_of (Err e) (tree name (groups bytes)) → Says z a b (λ l. include l room file line name z) (Err e)
 tree-stops a b room file line name z t bytes e some made got own-fault =
     let first : Listing → Result t'.Nodes Refusal = λ l. tree name (groups bytes) in
     let next : Listing → t'.Nodes → Step = λ l nodes. after_nodes (include l (room - 1)) name nodes t in
@@ -143,7 +141,7 @@ module _ (room : ℕ) (file : List ℕ) (line : ℕ) (name array : List ℕ) (bo
       loop-is (include l room) file line name array body vs z e
       ∙ ap (λ r. r >>= restored name z) (ap (λ x. turned l x z) (sym same) ∙ sym told)
 
-  pub turn-stops : (a b : Outside) (vs start rest more : List Value) (v : Value) (z st : State) (new : c.State) (answer : Result (Unit {0}) MacroFault) (e : Stop) → elements z.names array ≡ Ok vs → start ≡ vs → rest ≡ v ∷ more → Makes new answer (turn_begun name v st) → Placed answer file line (Err e) → ((l : Listing) → a.listing ≡ Some l → turned l rest st ≡ turned l start z) → Says z a b (looped z) (Err e)
+  pub turn-stops : (a b : Outside) (vs start rest more : List Value) (v : Value) (z st : State) (new : c.State) (answer : Result (Unit {0}) MacroFault) (e : Stop) → elements z.names array ≡ Ok vs → start ≡ vs → rest ≡ v ∷ more → Gives (λ u. state_of new) told answer (turn_begun name v st) → Placed answer file line (Err e) → ((l : Listing) → a.listing ≡ Some l → turned l rest st ≡ turned l start z) → Says z a b (looped z) (Err e)
   turn-stops a b vs start rest more v z st new answer e elems same split made placed told =
       let first : Listing → Step = λ l. at file line (turn_begun name v st) in
       let second : Listing → Step = λ l. first l >>= after_nodes (include l room) file body in
@@ -153,7 +151,7 @@ module _ (room : ℕ) (file : List ℕ) (line : ℕ) (name array : List ℕ) (bo
       (stops z z a b third (λ l. restored name z) e
       (stops z z a b second (λ l. turned l more) e
       (stops z z a b first (λ l. after_nodes (include l room) file body) e
-      (refused answer (turn_begun name v st) z a b file line e (makes-refused new answer (turn_begun name v st) made) placed))))
+      (refused answer (turn_begun name v st) z a b file line e (gives-refused (λ u. state_of new) answer (turn_begun name v st) made) placed))))
 
   pub body-stops : (a b d : Outside) (vs start rest more : List Value) (v : Value) (z st s1 new : State) (e : Stop) → elements z.names array ≡ Ok vs → start ≡ vs → rest ≡ v ∷ more → turn_begun name v st ≡ Ok s1 → Later a b → ((l : Listing) → a.listing ≡ Some l → turned l rest st ≡ turned l start z) → Says new b d (λ l. after_nodes (include l room) file body s1) (Err e) → Says z a d (looped z) (Err e)
   body-stops a b d vs start rest more v z st s1 new e elems same split begun later told says =
@@ -167,7 +165,3 @@ module _ (room : ℕ) (file : List ℕ) (line : ℕ) (name array : List ℕ) (bo
   pub loop-ends : (a : Outside) (vs start rest : List Value) (z st new : State) → elements z.names array ≡ Ok vs → start ≡ vs → length rest ≡ 0 → ((l : Listing) → a.listing ≡ Some l → turned l rest st ≡ turned l start z) → new ≡ named name (z.names name) st → Told a (looped z) (Ok new)
   loop-ends a vs start [] z st new elems same none told is = λ l t. loop-rest l vs start [] z st elems same (told l t) ∙ ap (λ x. Ok x) (sym is)
   loop-ends a vs start (x ∷ rest) z st new elems same none told is = cc
-
--- a part of what a line gives
-pub part-ok : {X Y : Type 0} (view : Y → X) (answer : Result Y MacroFault) (meant : Result X MacroKind) (y : Y) → GivesPart view answer meant → answer ≡ Ok y → meant ≡ Ok (view y)
-part-ok view answer meant y h e = subst (λ a. GivesPart view a meant) e h

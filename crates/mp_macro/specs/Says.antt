@@ -17,12 +17,6 @@ use Rattle.mp_macro.specs.declared.state.State.{State}
 abbrev pub state_of : State → s.State
 state_of x = record { names = value_in x.env; turns = x.turns; text = x.text }
 
--- what one line has made, unless there was no memory
-abbrev pub Makes : State → Result (Unit {0}) MacroFault → s.Outcome → Type 0
-Makes new (Ok u) meant = meant ≡ Ok (state_of new)
-Makes new (Err (m.Refused kind)) meant = meant ≡ Err kind
-Makes new (Err m.NoMemory) meant = Unit {0}
-
 -- what was returned is an answer for a line, with its file and line; or there was no memory
 abbrev pub Placed : {X : Type 0} → Result X MacroFault → List ℕ → ℕ → Result X Stop → Type 0
 Placed answer file line (Ok x) = answer ≡ Ok x
@@ -45,21 +39,13 @@ Misses name (t.Macro kind file line) = ⊥
 Misses name (t.ReadFault count) = ⊥
 Misses name t.NoMemory = Unit {0}
 
--- what was returned, seen by view, is what is meant, unless there was no memory
-abbrev pub Gives : {X Y : Type 0} → (Y → X) → Result Y Stop → Result X e.Refusal → Type 0
-Gives view (Ok y) meant = meant ≡ Ok (view y)
-Gives view (Err (t.Macro kind file line)) meant = meant ≡ Err (e.Macro kind file line)
-Gives view (Err (t.Absent name)) meant = ⊥
-Gives view (Err (t.ReadFault count)) meant = ⊥
-Gives view (Err t.NoMemory) meant = Unit {0}
-
--- lines of a file were carried out, or the expansion stops, unless there was no memory
-abbrev pub SaysHere : State → Result (Unit {0}) Stop → Result s.State e.Refusal → Type 0
-SaysHere new (Ok u) meant = meant ≡ Ok (state_of new)
-SaysHere new (Err (t.Macro kind file line)) meant = meant ≡ Err (e.Macro kind file line)
-SaysHere new (Err (t.Absent name)) meant = ⊥
-SaysHere new (Err (t.ReadFault count)) meant = ⊥
-SaysHere new (Err t.NoMemory) meant = Unit {0}
+-- what was returned without a further file, seen by view, is what is meant, unless there was no memory
+abbrev pub SaysHere : {X Y : Type 0} → (Y → X) → Result Y Stop → Result X e.Refusal → Type 0
+SaysHere view (Ok y) meant = meant ≡ Ok (view y)
+SaysHere view (Err (t.Macro kind file line)) meant = meant ≡ Err (e.Macro kind file line)
+SaysHere view (Err (t.Absent name)) meant = ⊥
+SaysHere view (Err (t.ReadFault count)) meant = ⊥
+SaysHere view (Err t.NoMemory) meant = Unit {0}
 
 -- in each listing that is told this is given
 abbrev pub Told : {X : Type 0} → Outside → (Listing → X) → X → Type 0
@@ -87,9 +73,3 @@ abbrev pub ShowsCause : Outside → Outside → ExpandFault → Type 0
 ShowsCause before now (x.Absent name) = Rose before.absents now.absents
 ShowsCause before now (x.ReadFault count) = Rose before.faults now.faults × (count ≡ now.faults)
 ShowsCause before now _ = Unit {0}
-
--- what was returned, seen by view, is what is meant for an expression, unless there was no memory
-abbrev pub GivesPart : {X Y : Type 0} → (Y → X) → Result Y MacroFault → Result X MacroKind → Type 0
-GivesPart view (Ok y) meant = meant ≡ Ok (view y)
-GivesPart view (Err (m.Refused kind)) meant = meant ≡ Err kind
-GivesPart view (Err m.NoMemory) meant = Unit {0}

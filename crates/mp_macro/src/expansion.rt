@@ -33,7 +33,7 @@ fn expand_run(
     state: &mut State,
 ) -> Result<(), Stop>
     requires { length file.now ≤ 128 }
-    ensures { (including : Including) → SaysHere state.new result (after_nodes including file.now (run_before first (end - first) (lines text.now) Done) (state_of state.old)) }
+    ensures { (including : Including) → SaysHere (λ u. state_of state.new) result (after_nodes including file.now (run_before first (end - first) (lines text.now) Done) (state_of state.old)) }
 {
     let (_, mut rest) = text.split_at(0);
     'lines: for line in first..end {

@@ -2,7 +2,9 @@
 ghost use Rattle.std.specs.Prelude.{◌≡◌, ◌≤◌, ◌<◌, ◌+◌, length, drop, IfSome, false};
 ghost use Rattle.mp_macro.specs.Plain.{Expression, begins_expression, mark_at, end_at, pieces};
 ghost use Rattle.mp_macro.specs.States.{after_piece, after_pieces};
-ghost use Rattle.mp_macro.specs.Says.{state_of, Makes};
+ghost use Rattle.mp_macro.specs.Says.{state_of};
+ghost use Rattle.mp_base.specs.Answers.{Gives};
+ghost use Rattle.mp_mvalue.specs.Told.{told};
 
 use crate::state::State;
 use crate::statement::{evaluate, refused};
@@ -72,7 +74,7 @@ fn past(bytes: &[u8], count: usize) -> &[u8]
 
 // Writes the printed value of an expression.
 fn write_value(alloc: Global, expr: &[u8], state: &mut State) -> Result<(), MacroFault>
-    ensures { Makes state.new result (after_piece (Expression expr.now) (state_of state.old)) }
+    ensures { Gives (λ u. state_of state.new) told result (after_piece (Expression expr.now) (state_of state.old)) }
 {
     let value = evaluate(alloc, expr, &state.env)?;
     let printed = print_value(alloc, &value)?;
@@ -81,7 +83,7 @@ fn write_value(alloc: Global, expr: &[u8], state: &mut State) -> Result<(), Macr
 
 // Writes a plain line piece by piece, with the value in place of each `@{expr}` before the comment.
 pub(crate) fn write_line(alloc: Global, line: &[u8], state: &mut State) -> Result<(), MacroFault>
-    ensures { Makes state.new result (after_pieces (pieces line.now) (state_of state.old)) }
+    ensures { Gives (λ u. state_of state.new) told result (after_pieces (pieces line.now) (state_of state.old)) }
 {
     let (_, mut rest) = line.split_at(0);
     'pieces: while let Some(before) = mark_at(rest) {

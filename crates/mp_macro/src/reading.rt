@@ -5,7 +5,7 @@ ghost use Rattle.mp_directive.specs.Tree.{nodes_weight};
 ghost use Rattle.mp_directive.specs.Groups.{groups};
 ghost use Rattle.mp_directive.specs.Shown.{nodes_of};
 ghost use Rattle.mp_macro.specs.Expansion.{contents, tree};
-ghost use Rattle.mp_macro.specs.Says.{Placed, Refuses, Misses, Gives, Says};
+ghost use Rattle.mp_macro.specs.Says.{Placed, Refuses, Misses, SaysHere, Says};
 
 use crate::fault::Stop;
 use mp_base::{Bytes, Label, MacroKind};
@@ -89,7 +89,7 @@ pub(crate) fn fetch<F: Files>(
 pub(crate) fn tree<'t>(alloc: Global, file: &[u8], bytes: &'t [u8]) -> Result<Items<Node<'t>>, Stop>
     requires file { length file.now ≤ 128 }
     requires bytes { length bytes.now ≤ 8388608 }
-    ensures tree { Gives nodes_of result (tree file.now (groups bytes.now)) }
+    ensures tree { SaysHere nodes_of result (tree file.now (groups bytes.now)) }
     ensures few { IfOk result (λ nodes. nodes_weight (nodes_of nodes) ≤ length bytes.now) }
 {
     match tree_of(alloc, bytes) {

@@ -22,10 +22,12 @@ pub struct State {
 
 impl State {
     ghost use Rattle.std.specs.Prelude.{◌≡◌, ◌≤◌, ◌++◌, ◌∷◌, [], length, Some, option_map, OnOk, IfOk};
+    ghost use Rattle.mp_base.specs.Answers.{Gives};
     ghost use Rattle.mp_mvalue.specs.Environments.{value_in};
     ghost use Rattle.mp_mvalue.specs.Shared.{unshared};
+    ghost use Rattle.mp_mvalue.specs.Told.{told};
     ghost use Rattle.mp_macro.specs.States.{written, counted, named};
-    ghost use Rattle.mp_macro.specs.Says.{state_of, Makes};
+    ghost use Rattle.mp_macro.specs.Says.{state_of};
 
     // No turn is made and nothing is written.
     pub(crate) fn new(alloc: Global, env: Env) -> State
@@ -40,7 +42,7 @@ impl State {
 
     // Writes a piece.
     pub(crate) fn write(&mut self, piece: &[u8]) -> Result<(), MacroFault>
-        ensures { Makes self.new result (written piece.now (state_of self.old)) }
+        ensures { Gives (λ u. state_of self.new) told result (written piece.now (state_of self.old)) }
     {
         if piece.len() > MOST_BYTES - self.text.as_slice().len() {
             return Err(MacroFault::Refused {
@@ -53,7 +55,7 @@ impl State {
 
     // Writes the rest of a line with its newline.
     pub(crate) fn write_rest(&mut self, rest: &[u8]) -> Result<(), MacroFault>
-        ensures { Makes self.new result (written (rest.now ++ 10 ∷ []) (state_of self.old)) }
+        ensures { Gives (λ u. state_of self.new) told result (written (rest.now ++ 10 ∷ []) (state_of self.old)) }
     {
         if rest.len() >= MOST_BYTES - self.text.as_slice().len() {
             return Err(MacroFault::Refused {
@@ -67,7 +69,7 @@ impl State {
 
     // Counts a turn of a loop, or an include.
     pub(crate) fn count(&mut self) -> Result<(), MacroFault>
-        ensures { Makes self.new result (counted (state_of self.old)) }
+        ensures { Gives (λ u. state_of self.new) told result (counted (state_of self.old)) }
     {
         if self.turns >= MOST_TURNS {
             return Err(MacroFault::Refused {

@@ -1,15 +1,16 @@
 // What one line does.
 ghost use Rattle.std.specs.Prelude.{◌≡◌, Err, option_map};
 ghost use Rattle.std.specs.Str.{is_utf8};
+ghost use Rattle.mp_base.specs.Answers.{Gives};
 ghost use Rattle.mp_directive.specs.Shown.{condition_of, statement_of};
 ghost use Rattle.mp_mvalue.specs.Environments.{value_in};
-ghost use Rattle.mp_mvalue.specs.Gives.{Gives, GivesValue};
 ghost use Rattle.mp_mvalue.specs.Shared.{unshared};
+ghost use Rattle.mp_mvalue.specs.Told.{told};
 ghost use Rattle.mp_mexpr.specs.Meaning.{elements_of};
 ghost use Rattle.mp_macro.specs.States.{value, text_of, defined_value, echoed, user_error, after_statement, after_alone, holds, elements, turn_begun, is_file_name, file_name};
 ghost use Rattle.mp_directive.specs.Directives.{content_of};
 ghost use Rattle.mp_directive.specs.Directives as d;
-ghost use Rattle.mp_macro.specs.Says.{state_of, Makes, GivesPart};
+ghost use Rattle.mp_macro.specs.Says.{state_of};
 
 use crate::plain::write_line;
 use crate::state::State;
@@ -29,14 +30,14 @@ pub(crate) fn refused<T>(kind: MacroKind) -> Result<T, MacroFault>
 // The value of an expression.
 #[tactic(auto, unfolding(crate::specs::States::value))]
 pub(crate) fn evaluate(alloc: Global, expr: &[u8], env: &Env) -> Result<SharedValue, MacroFault>
-    ensures { GivesValue result (value (value_in env.now) expr.now) }
+    ensures { Gives unshared told result (value (value_in env.now) expr.now) }
 {
     eval(alloc, expr, env)
 }
 
 // A text.
 fn text_of(value: SharedValue) -> Result<Rc<Bytes, Global>, MacroFault>
-    ensures { GivesPart (λ t. t.value) result (text_of (unshared value)) }
+    ensures { Gives (λ t. t.value) told result (text_of (unshared value)) }
 {
     match value {
         SharedValue::Text(text) => Ok(text),
@@ -46,7 +47,7 @@ fn text_of(value: SharedValue) -> Result<Rc<Bytes, Global>, MacroFault>
 
 // An array.
 fn elements_of(value: SharedValue) -> Result<Rc<Array, Global>, MacroFault>
-    ensures { GivesPart (λ a. a.value) result (elements_of (unshared value)) }
+    ensures { Gives (λ a. a.value) told result (elements_of (unshared value)) }
 {
     match value {
         SharedValue::List(elements) => Ok(elements),
@@ -56,7 +57,7 @@ fn elements_of(value: SharedValue) -> Result<Rc<Array, Global>, MacroFault>
 
 // The value that `@#define` gives: without an expression the number 1.
 fn defined_value(alloc: Global, expr: Option<&[u8]>, env: &Env) -> Result<SharedValue, MacroFault>
-    ensures { GivesValue result (defined_value (value_in env.now) (option_map (λ e. e.now) expr.entry)) }
+    ensures { Gives unshared told result (defined_value (value_in env.now) (option_map (λ e. e.now) expr.entry)) }
 {
     match expr {
         Some(expr) => evaluate(alloc, expr, env),
@@ -70,7 +71,7 @@ fn define(
     expr: Option<&[u8]>,
     state: &mut State,
 ) -> Result<(), MacroFault>
-    ensures { Makes state.new result (after_statement (d.Define name.now (option_map (λ e. e.now) expr.entry)) (state_of state.old)) }
+    ensures { Gives (λ u. state_of state.new) told result (after_statement (d.Define name.now (option_map (λ e. e.now) expr.entry)) (state_of state.old)) }
 {
     let value = defined_value(alloc, expr, &state.env)?;
     state.name(name, value)?;
@@ -78,14 +79,14 @@ fn define(
 }
 
 fn echo(alloc: Global, expr: &[u8], env: &Env) -> Result<(), MacroFault>
-    ensures { Gives result (echoed (value_in env.now) expr.now) }
+    ensures { Gives (λ u. u) told result (echoed (value_in env.now) expr.now) }
 {
     let _text = text_of(evaluate(alloc, expr, env)?)?;
     Ok(())
 }
 
 fn error(alloc: Global, expr: &[u8], env: &Env) -> Result<(), MacroFault>
-    ensures { Gives result (user_error (value_in env.now) expr.now) }
+    ensures { Gives (λ u. u) told result (user_error (value_in env.now) expr.now) }
 {
     let _text = text_of(evaluate(alloc, expr, env)?)?;
     refused(MacroKind::UserError)
@@ -93,7 +94,7 @@ fn error(alloc: Global, expr: &[u8], env: &Env) -> Result<(), MacroFault>
 
 // What a line by itself does.
 pub(crate) fn carry_line(alloc: Global, line: &[u8], state: &mut State) -> Result<(), MacroFault>
-    ensures { Makes state.new result (after_alone (content_of line.now) (state_of state.old)) }
+    ensures { Gives (λ u. state_of state.new) told result (after_alone (content_of line.now) (state_of state.old)) }
 {
     match content_of(line) {
         Content::Alone(statement) => carry_out(alloc, &statement, state),
@@ -107,7 +108,7 @@ pub(crate) fn carry_out(
     statement: &Statement,
     state: &mut State,
 ) -> Result<(), MacroFault>
-    ensures { Makes state.new result (after_statement (statement_of statement.now) (state_of state.old)) }
+    ensures { Gives (λ u. state_of state.new) told result (after_statement (statement_of statement.now) (state_of state.old)) }
 {
     match statement {
         Statement::Plain(line) => write_line(alloc, line, state),
@@ -119,7 +120,7 @@ pub(crate) fn carry_out(
 
 // Whether a branch is taken.
 pub(crate) fn holds(alloc: Global, condition: &Condition, env: &Env) -> Result<bool, MacroFault>
-    ensures { Gives result (holds (value_in env.now) (condition_of condition.now)) }
+    ensures { Gives (λ b. b) told result (holds (value_in env.now) (condition_of condition.now)) }
 {
     match condition {
         Condition::Holds(expr) => truth_of(&evaluate(alloc, expr, env)?),
@@ -135,7 +136,7 @@ pub(crate) fn elements(
     expr: &[u8],
     env: &Env,
 ) -> Result<Rc<Array, Global>, MacroFault>
-    ensures { GivesPart (λ a. a.value) result (elements (value_in env.now) expr.now) }
+    ensures { Gives (λ a. a.value) told result (elements (value_in env.now) expr.now) }
 {
     elements_of(evaluate(alloc, expr, env)?)
 }
@@ -165,7 +166,7 @@ pub(crate) fn file_name(
     expr: &[u8],
     env: &Env,
 ) -> Result<Rc<Bytes, Global>, MacroFault>
-    ensures { GivesPart (λ t. t.value) result (file_name (value_in env.now) expr.now) }
+    ensures { Gives (λ t. t.value) told result (file_name (value_in env.now) expr.now) }
 {
     let name = text_of(evaluate(alloc, expr, env)?)?;
     if is_file_name(name.as_ref().as_slice()) {
@@ -180,7 +181,7 @@ pub(crate) fn begin_turn(
     element: &SharedValue,
     state: &mut State,
 ) -> Result<(), MacroFault>
-    ensures { Makes state.new result (turn_begun name.now (unshared element.now) (state_of state.old)) }
+    ensures { Gives (λ u. state_of state.new) told result (turn_begun name.now (unshared element.now) (state_of state.old)) }
 {
     state.count()?;
     state.name(name, copy(element)?)?;

@@ -1,3 +1,4 @@
 pub mod Defines
+pub mod Refusals
 pub mod Requests
 pub mod Walk

@@ -1,3 +1,4 @@
 pub mod Command
+pub mod Refusals
 pub mod Shown
 pub mod Words

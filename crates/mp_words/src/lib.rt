@@ -3,6 +3,8 @@
 
 mod command;
 pub mod define;
+pub mod laws;
 pub mod words;
 
+pub use laws::refusal_law;
 pub use words::{WordFault, Words, read_words};

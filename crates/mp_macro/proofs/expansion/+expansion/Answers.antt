@@ -7,12 +7,12 @@ use Rattle.mp_directive.specs.Groups.{groups}
 use Rattle.mp_directive.specs.Shown.{node_before, nodes_of, branches_of}
 use Rattle.mp_macro.specs.States.{counted, named, elements, turn_begun}
 use Rattle.mp_macro.specs.Expansion.{after_node, after_nodes, after_branches, include, tree}
-use Rattle.mp_macro.specs.Says.{state_of, Gives, SaysHere}
+use Rattle.mp_macro.specs.Says.{state_of, SaysHere}
 use Rattle.mp_mvalue.specs.Shared.{unshared, all_unshared}
 use Rattle.mp_mvalue.proofs.Lengths.{length-unshared}
 use Rattle.mp_macro.proofs.Runs.{one-node, first-weight, nodes-next, nodes-stop, here-says}
 use Rattle.mp_macro.proofs.Parts.{choice-of, loop-of}
-use Rattle.mp_macro.proofs.Steps.{later-refl, later-join, says-after, makes-ok, part-ok, deep-says, count-stops, fetch-stops, tree-stops, include-goes-on, turn-stops, body-stops, loop-ends}
+use Rattle.mp_macro.proofs.Steps.{later-refl, later-join, says-after, gives-ok, deep-says, count-stops, fetch-stops, tree-stops, include-goes-on, turn-stops, body-stops, loop-ends}
 use Rattle.mp_macro.proofs.expansion.+expansion.Goals as goal
 
 pub expand_node-expand_branches-requires : goal.expand_node-expand_branches-requires
@@ -57,19 +57,19 @@ expand_include-returns-in_err-placed-clause-says g t c =
 pub expand_include-returns-in_err-fetch-clause-says : goal.expand_include-returns-in_err-fetch-clause-says
 expand_include-returns-in_err-fetch-clause-says g t c =
     let p = err_from_is_err_and c.from_residual-in_err-fetch.result c.from_residual-in_err-fetch.ensures.1 in
-    let counts = makes-ok c.count.new.self c.count.result (counted (state_of c.args.state.now)) c.in_ok-placed.field-0 c.count.ensures c.in_ok-placed.ensures in
+    let counts = gives-ok (λ u. state_of c.count.new.self) c.count.result (counted (state_of c.args.state.now)) c.in_ok-placed.field-0 c.count.ensures c.in_ok-placed.ensures in
     rw (p.1, p.2) (fetch-stops (g.F.Files.outside c.args.files.now) (g.F.Files.outside c.fetch.new.files) c.args.room c.args.file.now c.args.line c.args.name.now (state_of c.args.state.now) (state_of c.count.new.self) c.fetch.new.into c.in_err-fetch.field-0.0 c.if-room-eq0.false counts c.in_err-fetch.ensures.says)
 
 pub expand_include-returns-in_err-nodes-clause-says : goal.expand_include-returns-in_err-nodes-clause-says
 expand_include-returns-in_err-nodes-clause-says g t c =
     let p = err_from_is_err_and c.from_residual-in_err-nodes.result c.from_residual-in_err-nodes.ensures.1 in
-    let counts = makes-ok c.count.new.self c.count.result (counted (state_of c.args.state.now)) c.in_ok-placed.field-0 c.count.ensures c.in_ok-placed.ensures in
-    let read = subst (λ b. Gives nodes_of (Err c.in_err-nodes.field-0.0) (tree c.args.name.now (groups b))) c.as_slice.ensures c.in_err-nodes.ensures.tree in
+    let counts = gives-ok (λ u. state_of c.count.new.self) c.count.result (counted (state_of c.args.state.now)) c.in_ok-placed.field-0 c.count.ensures c.in_ok-placed.ensures in
+    let read = subst (λ b. SaysHere nodes_of (Err c.in_err-nodes.field-0.0) (tree c.args.name.now (groups b))) c.as_slice.ensures c.in_err-nodes.ensures.tree in
     rw (p.1, p.2) (tree-stops (g.F.Files.outside c.args.files.now) (g.F.Files.outside c.fetch.new.files) c.args.room c.args.file.now c.args.line c.args.name.now (state_of c.args.state.now) (state_of c.count.new.self) c.fetch.new.into c.in_err-nodes.field-0.0 c.if-room-eq0.false counts c.in_ok-fetch.ensures.says read)
 
 pub expand_include-returns-clause-says : goal.expand_include-returns-clause-says
 expand_include-returns-clause-says g t c =
-    let counts = makes-ok c.count.new.self c.count.result (counted (state_of c.args.state.now)) c.in_ok-placed.field-0 c.count.ensures c.in_ok-placed.ensures in
+    let counts = gives-ok (λ u. state_of c.count.new.self) c.count.result (counted (state_of c.args.state.now)) c.in_ok-placed.field-0 c.count.ensures c.in_ok-placed.ensures in
     let read = subst (λ b. tree c.args.name.now (groups b) ≡ Ok (nodes_of c.in_ok-nodes.nodes)) c.as_slice.ensures c.in_ok-nodes.ensures.tree in
     let read' = read ∙ ap (λ b. Ok (nodes_of b)) (sym c.as_slice-2.ensures) in
     include-goes-on (g.F.Files.outside c.args.files.now) (g.F.Files.outside c.fetch.new.files) (g.F.Files.outside c.expand_nodes.new.files) c.args.room c.args.file.now c.args.line c.args.name.now (state_of c.args.state.now) (state_of c.count.new.self) (state_of c.expand_nodes.new.state) c.fetch.new.into (nodes_of c.as_slice-2.result.now) c.expand_nodes.result c.if-room-eq0.false counts c.in_ok-fetch.ensures.says read' c.in_ok-fetch.ensures.later c.expand_nodes.ensures.says
@@ -79,7 +79,7 @@ expand_loop-returns-in_err-placed-clause-says g t c =
     let p = err_from_is_err_and c.from_residual-in_err-placed.result c.from_residual-in_err-placed.ensures.1 in
     let h = c.args.head.now in
     let z = state_of c.args.state.now in
-    let elems = part-ok (λ a. a.value) c.elements.result (elements z.names h.array.now) c.in_ok-values.values c.elements.ensures c.in_ok-values.ensures in
+    let elems = gives-ok (λ a. a.value) c.elements.result (elements z.names h.array.now) c.in_ok-values.values c.elements.ensures c.in_ok-values.ensures in
     rw (p.1, p.2) (turn-stops c.args.room c.args.file.now h.line h.name.now h.array.now (nodes_of c.args.body.now) (g.F.Files.outside c.args.files.now) (g.F.Files.outside c.turns.files) c.in_ok-values.values.value (all_unshared c.as_slice-rest.result.now) (all_unshared c.turns.rest.now) (all_unshared c.in-Some.more.now) (unshared c.in-Some.value.now) z (state_of c.turns.state) c.begin_turn.new.state c.begin_turn.result c.in_err-placed.field-0.0 elems (c.as_slice-rest.ensures ∙ c.as_ref.ensures) (ap all_unshared c.in-Some.ensures.cases.0) c.begin_turn.ensures c.in_err-placed.ensures c.turns.invariant.told)
 
 pub expand_loop-returns-in_err-expand_nodes-clause-says : goal.expand_loop-returns-in_err-expand_nodes-clause-says
@@ -87,15 +87,15 @@ expand_loop-returns-in_err-expand_nodes-clause-says g t c =
     let p = err_from_is_err_and c.from_residual-in_err-expand_nodes.result c.from_residual-in_err-expand_nodes.ensures.1 in
     let h = c.args.head.now in
     let z = state_of c.args.state.now in
-    let elems = part-ok (λ a. a.value) c.elements.result (elements z.names h.array.now) c.in_ok-values.values c.elements.ensures c.in_ok-values.ensures in
-    let begun = makes-ok c.begin_turn.new.state c.begin_turn.result (turn_begun h.name.now (unshared c.in-Some.value.now) (state_of c.turns.state)) c.in_ok-placed.field-0 c.begin_turn.ensures c.in_ok-placed.ensures in
+    let elems = gives-ok (λ a. a.value) c.elements.result (elements z.names h.array.now) c.in_ok-values.values c.elements.ensures c.in_ok-values.ensures in
+    let begun = gives-ok (λ u. state_of c.begin_turn.new.state) c.begin_turn.result (turn_begun h.name.now (unshared c.in-Some.value.now) (state_of c.turns.state)) c.in_ok-placed.field-0 c.begin_turn.ensures c.in_ok-placed.ensures in
     rw (p.1, p.2) (body-stops c.args.room c.args.file.now h.line h.name.now h.array.now (nodes_of c.args.body.now) (g.F.Files.outside c.args.files.now) (g.F.Files.outside c.turns.files) (g.F.Files.outside c.expand_nodes.new.files) c.in_ok-values.values.value (all_unshared c.as_slice-rest.result.now) (all_unshared c.turns.rest.now) (all_unshared c.in-Some.more.now) (unshared c.in-Some.value.now) z (state_of c.turns.state) (state_of c.begin_turn.new.state) (state_of c.expand_nodes.new.state) c.in_err-expand_nodes.field-0.0 elems (c.as_slice-rest.ensures ∙ c.as_ref.ensures) (ap all_unshared c.in-Some.ensures.cases.0) begun c.turns.invariant.later c.turns.invariant.told c.in_err-expand_nodes.ensures.says)
 
 pub expand_loop-returns-clause-says : goal.expand_loop-returns-clause-says
 expand_loop-returns-clause-says g t c =
     let h = c.args.head.now in
     let z = state_of c.args.state.now in
-    let elems = part-ok (λ a. a.value) c.elements.result (elements z.names h.array.now) c.in_ok-values.values c.elements.ensures c.in_ok-values.ensures in
+    let elems = gives-ok (λ a. a.value) c.elements.result (elements z.names h.array.now) c.in_ok-values.values c.elements.ensures c.in_ok-values.ensures in
     loop-ends c.args.room c.args.file.now h.line h.name.now h.array.now (nodes_of c.args.body.now) (g.F.Files.outside c.args.files.now) c.in_ok-values.values.value (all_unshared c.as_slice-rest.result.now) (all_unshared c.turns.rest.now) z (state_of c.turns.state) (state_of c.restore.new.self) elems (c.as_slice-rest.ensures ∙ c.as_ref.ensures) (length-unshared c.turns.rest.now ∙ c.in_default.ensures.cases) c.turns.invariant.told (c.in_ok-restore.ensures ∙ ap (λ v. named h.name.now v (state_of c.turns.state)) c.turns.invariant.former)
 
 pub expand_nodes-expand_node-requires : goal.expand_nodes-expand_node-requires
@@ -122,5 +122,5 @@ expand_nodes-nodes-preserved g t c =
 pub expand_node-returns-in-Run-clause-says : goal.expand_node-returns-in-Run-clause-says
 expand_node-returns-in-Run-clause-says g t c =
     let s = state_of c.args.state.now in
-    let told : (l : Listing) → SaysHere c.expand_run.new.state c.expand_run.result (after_nodes (include l c.args.room) c.args.file.now (node_before c.args.node.now Done) s) = λ l. subst (λ x. SaysHere c.expand_run.new.state c.expand_run.result (after_nodes (include l c.args.room) c.args.file.now (node_before x Done) s)) (sym c.in-Run.is) (c.expand_run.ensures (include l c.args.room)) in
+    let told : (l : Listing) → SaysHere (λ u. state_of c.expand_run.new.state) c.expand_run.result (after_nodes (include l c.args.room) c.args.file.now (node_before c.args.node.now Done) s) = λ l. subst (λ x. SaysHere (λ u. state_of c.expand_run.new.state) c.expand_run.result (after_nodes (include l c.args.room) c.args.file.now (node_before x Done) s)) (sym c.in-Run.is) (c.expand_run.ensures (include l c.args.room)) in
     here-says c.expand_run.new.state (g.F.Files.outside c.args.files.now) (λ l. after_nodes (include l c.args.room) c.args.file.now (node_before c.args.node.now Done) s) c.expand_run.result told

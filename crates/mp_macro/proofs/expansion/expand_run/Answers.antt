@@ -5,7 +5,7 @@ use Rattle.mp_directive.specs.Directives.{content_of}
 use Rattle.mp_macro.specs.States.{after_alone}
 use Rattle.mp_macro.specs.Expansion.{after_nodes}
 use Rattle.mp_macro.specs.Says.{state_of}
-use Rattle.mp_macro.proofs.Steps.{makes-ok}
+use Rattle.mp_macro.proofs.Steps.{gives-ok}
 use Rattle.mp_macro.proofs.Runs.{run-none, run-next, run-stops}
 use Rattle.mp_macro.proofs.expansion.expand_run.Goals as goal
 
@@ -21,5 +21,5 @@ returns-in_err-placed c = λ including.
 
 pub lines-preserved : goal.lines-preserved
 lines-preserved c = λ including.
-    let made = makes-ok c.carry_line.new.state c.carry_line.result (after_alone (content_of c.first_line.result.0.now) (state_of c.lines.state)) c.in_ok-placed.field-0 c.carry_line.ensures c.in_ok-placed.ensures in
+    let made = gives-ok (λ u. state_of c.carry_line.new.state) c.carry_line.result (after_alone (content_of c.first_line.result.0.now) (state_of c.lines.state)) c.in_ok-placed.field-0 c.carry_line.ensures c.in_ok-placed.ensures in
     run-next including c.args.file.now c.lines.line c.args.end c.lines.rest.now c.first_line.result.0.now c.first_line.result.1.now (state_of c.lines.state) (state_of c.carry_line.new.state) _ c.lines-test.true c.first_line.ensures.value made (c.lines.invariant including)
