@@ -116,13 +116,27 @@ for turn in range(3):
     times.append(use.ru_utime + use.ru_stime)
 size = os.path.getsize(text) / 1e6
 print("%-44s status %s %8.2f MB %7.3f s %8.1f MB/s" % (name, wanted, size, min(times), size / max(min(times), 1e-3)))
+open(os.path.join(os.path.dirname(text), "seconds"), "w").write(str(min(times)))
+END
+}
+
+# what the last text took, against the seconds before
+compare() {
+  python3 - "$1" "$(cat "$work/seconds")" <<'END'
+import sys
+half, whole = max(float(sys.argv[1]), 1e-3), float(sys.argv[2])
+print("  twice the products take %.2f times as long (at most 2.2), and %.3f s (at most 0.25)" % (whole / half, whole))
+sys.exit(whole > 2.2 * half or whole > 0.25)
 END
 }
 
 products 100 480 1 > "$work/text.mod"
 measure "100 equations of 480 products" 0
+half=$(cat "$work/seconds")
+# a model has at most 200,000 operations, so that no text has twice these
 products 200 480 1 > "$work/text.mod"
 measure "200 equations of 480 products" 0
+compare "$half" || late=1
 products 200 480 36 > "$work/text.mod"
 measure "the same, names of 36 bytes" 0
 products 200 480 75 > "$work/text.mod"
@@ -151,3 +165,4 @@ tags 1 220000 > "$work/text.mod"
 measure "an equation with 220,000 tags" 0
 notes 690000 > "$work/text.mod"
 measure "690,000 noted commands" 0
+exit ${late:-0}
