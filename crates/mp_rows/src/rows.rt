@@ -2,7 +2,7 @@
 
 use crate::running::{DERIVE, EXPAND, Row, TRANSFORM, answers};
 use mp_base::NoMemory;
-use mp_vectors::{DERIVED, EXPANDED, REFUSED, TRANSFORMED};
+use mp_vectors::{DERIVED, EXPANDED, NESTED, REFUSED, TRANSFORMED};
 use std::alloc::Global;
 use std::process::Abort;
 use std::test::Fail;
@@ -124,6 +124,11 @@ fn texts_are_transformed(rt: HostRuntime) -> Result<(), Fail> {
 #[test]
 fn texts_are_refused(rt: HostRuntime) -> Result<(), Fail> {
     Ok(worked(&rt, rt.alloc(), TRANSFORM, REFUSED)?)
+}
+
+#[test]
+fn open_parentheses_have_a_limit(rt: HostRuntime) -> Result<(), Fail> {
+    Ok(worked(&rt, rt.alloc(), TRANSFORM, NESTED)?)
 }
 
 #[test]
